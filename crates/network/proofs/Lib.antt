@@ -1,0 +1,4 @@
+pub mod Rowing
+pub mod Telling
+pub mod Finding
+pub mod Setting

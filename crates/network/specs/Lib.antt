@@ -1,0 +1,5 @@
+pub mod Answers
+pub mod Touching
+pub mod Changing
+pub mod Rows
+pub mod Laws
