@@ -17,13 +17,13 @@ use Rattle.refusal.specs.declared.Part.{Part}
 use Rattle.refusal.specs.declared.Part.the-variants.{Network}
 use Rattle.refusal.specs.Checks.{check, firstOf, afterwards}
 use Rattle.refusal.proofs.Checking.{caught, passed, one-answer}
-use Rattle.flow.specs.Bounds.{highestSetting}
+use Rattle.flow.specs.Bounds.{highestLimit, highestSetting}
 use Rattle.flow.specs.Net.{Arc, Net, arcAt, Sound}
-use Rattle.flow.specs.Changes.{reachChanged}
+use Rattle.flow.specs.Changes.{withReaches, reachChanged}
 use Rattle.flow.proofs.Changing.{keeps-sound}
 use Rattle.network.specs.declared.change.Change.{Change}
 use Rattle.network.specs.declared.change.Change.the-variants.{Carry, Limit}
-use Rattle.network.specs.Changing.{changed, ownChecks, changeChecks, Changed}
+use Rattle.network.specs.Changing.{changed, ownChecks, changeChecks, ChangedIn, Changed}
 use Rattle.network.specs.Laws.{Change-laws}
 
 module _ (c : Change) (rs : List Arc) (giver : ℕ → Part) (k : ℕ) where
@@ -56,6 +56,21 @@ module _ (g : Net) (giver : ℕ → Part) (k : ℕ) (s : Sound g) where
       go (Limit q) own =
           let fits = limit-fits q (arcAt (g .reaches) k) (giver k) own in
           keeps-sound .limit g k q s (fits .0) (omega (arith, fits .1))
+
+-- what a reach keeps to whatever its ends are
+abbrev pub Bounded : Arc → Type 0
+Bounded r = (r .carried ≤ r .limit) × (r .limit ≤ highestLimit)
+
+-- a reach that accepts a change keeps to it
+pub changed-bounded : (c : Change) (r : Arc) (p : Part) → firstOf (ownChecks c r p) ≡ None → Bounded r → Bounded (changed c r)
+changed-bounded (Carry a) r p none b = (carry-fits a r p none, b .1)
+changed-bounded (Limit q) r p none b = let fits = limit-fits q r p none in (fits .0, omega (arith, fits .1))
+
+-- a change in a network's list is a change of the network
+pub changed-net : (c : Change) (g : Net) (giver : ℕ → Part) (k : ℕ) (r : Result Unit Refusal) (after : List Arc) →
+    ChangedIn c (g .reaches) giver k r after → Changed c g giver k r (withReaches g after)
+changed-net c g giver k (Ok _) after h = (h .0, ap (withReaches g) (h .1))
+changed-net c g giver k (Err e) after h = (h .0, ap (withReaches g) (h .1))
 
 sound : (c : Change) (g : Net) (giver : ℕ → Part) (k : ℕ) (r : Result Unit Refusal) (z : Net) →
     Sound g → Changed c g giver k r z → Sound z

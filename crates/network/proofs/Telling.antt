@@ -19,16 +19,16 @@ use Rattle.network.specs.declared.reach.Reach.{Reach}
 use Rattle.network.specs.Answers.{reachChecks, Told}
 
 module _ (rs : List Arc) (k : ℕ) where
-  past : length rs ≤ k → firstOf (reachChecks rs k) ≡ Some (4, Network)
-  past high = caught (leb (length rs) k) 4 Network [] (le-leb (length rs) k high)
+  pub reach-past : length rs ≤ k → firstOf (reachChecks rs k) ≡ Some (4, Network)
+  reach-past high = caught (leb (length rs) k) 4 Network [] (le-leb (length rs) k high)
 
-  there : k < length rs → firstOf (reachChecks rs k) ≡ None
-  there low = passed (leb (length rs) k) 4 Network [] (lt-leb (length rs) k low)
+  pub reach-there : k < length rs → firstOf (reachChecks rs k) ≡ None
+  reach-there low = passed (leb (length rs) k) 4 Network [] (lt-leb (length rs) k low)
 
   -- a reach that is told is there
   pub told-low : (r : Reach) → Told rs k (Ok r) → k < length rs
-  told-low r t = ⊎-elim (λ low. low) (λ high. absurd (let z : _≡_ {A = ℕ} 0 1 = cc (past high, t .0) in omega arith)) (cases-lt k (length rs))
+  told-low r t = ⊎-elim (λ low. low) (λ high. absurd (let z : _≡_ {A = ℕ} 0 1 = cc (reach-past high, t .0) in omega arith)) (cases-lt k (length rs))
 
   -- one that is there is not refused
   pub told-high : (e : Refusal) → Told rs k (Err e) → length rs ≤ k
-  told-high e t = ⊎-elim (λ low. absurd (let z : _≡_ {A = ℕ} 0 1 = cc (there low, t .0 .0) in omega arith)) (λ high. high) (cases-lt k (length rs))
+  told-high e t = ⊎-elim (λ low. absurd (let z : _≡_ {A = ℕ} 0 1 = cc (reach-there low, t .0 .0) in omega arith)) (λ high. high) (cases-lt k (length rs))

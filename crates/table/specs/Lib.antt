@@ -1,0 +1,4 @@
+pub mod Bounds
+pub mod Laid
+pub mod Tables
+pub mod Drafting
