@@ -1,0 +1,5 @@
+pub mod Lines
+pub mod Commands
+pub mod Reported
+pub mod Setups
+pub mod Rest

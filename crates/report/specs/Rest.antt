@@ -1,0 +1,31 @@
+-- The lines that a desk has still to give.
+use Prim.Native.Nat.{ℕ}
+use mathlib.Core.List.{[], _∷_}
+use Rattle.std.specs.declared.option.Option.{Option}
+use Rattle.std.specs.declared.option.Option.the-variants.{None, Some}
+use Rattle.refusal.specs.declared.Part.{Part}
+use Rattle.flow.specs.Net.{Net}
+use Rattle.drawing.specs.Ahead.{ahead}
+use Rattle.report.specs.declared.line.Line.{Line}
+use Rattle.report.specs.declared.desk.Desk.{Desk}
+use Rattle.report.specs.declared.desk.Phase.{Phase}
+use Rattle.report.specs.declared.desk.Phase.the-variants as phase
+use Rattle.report.specs.Lines.{Lines, lineText}
+use Rattle.report.specs.Commands.{Asked, ask, asked}
+use Rattle.report.specs.Reported.{commandLines, openedLines}
+
+abbrev pub restOf : Phase → Asked → (ℕ → Part) → Net → Lines
+restOf phase.Opening a giver g = openedLines a giver g
+restOf (phase.Held c p) a giver g = commandLines (ask c p a) giver g
+restOf phase.Commands a giver g = commandLines a giver g
+restOf phase.Over a giver g = []
+
+-- of a desk over any network, by what the network means and which part answers for its reaches
+module _ {N : Type 0} (means : N → Net) (gives : N → ℕ → Part) where
+  abbrev pub rest : Desk N → Lines
+  rest d = restOf (d .phase) (asked (ahead (d .reader))) (gives (d .network)) (means (d .network))
+
+-- the line that was given, if one was, and then the others
+abbrev pub given : Option Line → Lines → Lines
+given None ls = []
+given (Some l) ls = lineText l ∷ ls
