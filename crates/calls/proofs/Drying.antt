@@ -29,7 +29,8 @@ dried-length : (k : ℕ) (g : Net) → length (driedTo k g .reaches) ≡ length 
 dried-length k g = simp (length-append, length-map, length-take, length-drop) (omega arith)
 
 -- a reach that is there takes the amount 0
-pub zero-accepted : (g : Net) (giver : ℕ → Part) (k : ℕ) → k < length (g .reaches) → firstOf (changeChecks (Carry 0) (g .reaches) giver k) ≡ None
+pub zero-accepted : (g : Net) (giver : ℕ → Part) (k : ℕ) → k < length (g .reaches) →
+    firstOf (changeChecks (Carry 0) (g .reaches) giver k) ≡ None
 zero-accepted g giver k low = grind (arith, tells)
 
 module _ (was before after : Net) (k : ℕ) (low : k < length (was .reaches)) (so : before ≡ driedTo k was) where

@@ -15,10 +15,10 @@ use Rattle.drawing.specs.declared.kind.Kind.{Kind}
 use Rattle.drawing.specs.declared.kind.Stage.{Stage}
 use Rattle.drawing.specs.Kinds.{letterOf, everyKind, kindAmong, kindOf, lengthOf, follows, ends}
 use Rattle.drawing.specs.Records.{wrong}
-use Rattle.drawing.specs.Reading.{Judged, judged, fielded, placed, lettered}
+use Rattle.drawing.specs.Reading.{Verdict, judged, fielded, placed, lettered}
 
 -- a record begins with the letter of its kind, and is there whole; and an end is where no byte is left
-abbrev pub Found : Judged → List ℕ → Type 0
+abbrev pub Found : Verdict → List ℕ → Type 0
 Found (Err f) bs = Unit {0}
 Found (Ok None) [] = Unit {0}
 Found (Ok None) (b ∷ bs) = ⊥
@@ -42,7 +42,7 @@ found-placed : (kind : Kind) (o : Option Stage) (b : ℕ) (bs : List ℕ) (n : �
     → b ≡ letterOf kind → Found (placed kind o (b ∷ bs) n) (b ∷ bs)
 found-placed kind None b bs n l = tt
 found-placed kind (Some next) b bs n l =
-    cond-both (ltb (length (b ∷ bs)) (lengthOf kind)) _ _ (λ (j : Judged). Found j (b ∷ bs))
+    cond-both (ltb (length (b ∷ bs)) (lengthOf kind)) _ _ (λ (j : Verdict). Found j (b ∷ bs))
     (λ _. tt)
     (λ e. found-fielded (wrong kind (b ∷ bs) n) kind next b bs l (ltb-false (length (b ∷ bs)) (lengthOf kind) e))
 

@@ -12,7 +12,7 @@ use Rattle.std.specs.declared.result.Result.the-variants.{Ok, Err}
 use Rattle.refusal.specs.declared.Fault.the-variants.{EndsEarly}
 use Rattle.drawing.specs.Kinds.{bodyOf, ends}
 use Rattle.drawing.specs.Records.{spelt}
-use Rattle.drawing.specs.Reading.{State, Answer, Judged, judged, told, passed, step}
+use Rattle.drawing.specs.Reading.{State, Answer, Verdict, judged, told, passed, step}
 use Rattle.drawing.specs.Ahead.{Drawn, item, end, beginning, behind, drawnFrom, spoken}
 use Rattle.drawing.proofs.Found.{Found, found}
 
@@ -27,10 +27,10 @@ behind-drop (b ∷ bs) (suc k) at h = behind-drop bs k at (omega arith)
 -- ---- one call
 
 -- what is said where the input is judged so, and what the reader then has ahead
-Goes : Judged → List ℕ → List ℕ → State → Drawn → Type 0
+Goes : Verdict → List ℕ → List ℕ → State → Drawn → Type 0
 Goes j input bs at here = here ≡ spoken (told j bs at .0) (at .place) (drawnFrom input (told j bs at .1))
 
-at-record : (j : Judged) (input : List ℕ) (b : ℕ) (bs : List ℕ) (at : State)
+at-record : (j : Verdict) (input : List ℕ) (b : ℕ) (bs : List ℕ) (at : State)
     → drop (at .place) input ≡ b ∷ bs → Found j (b ∷ bs) → Goes j input (b ∷ bs) at (beginning j (b ∷ bs) at (behind bs))
 unfolding drawnFrom Goes
 at-record (Err f) input b bs at e w = refl
@@ -47,8 +47,9 @@ at-bytes : (input bs : List ℕ) (at : State) → drop (at .place) input ≡ bs
     → Goes (judged bs (at .stage) (at .junctions)) input bs at (behind bs 0 at)
 unfolding Goes
 at-bytes input [] at e =
-    let j : Bool → Judged = λ v. cond v (Ok None) (Err EndsEarly) in
-    elim (ends (at .stage)) as (λ v. Goes (j v) input [] at (beginning (j v) [] at (λ _ next. end (next .place)))) [ true ↦ refl | false ↦ refl ]
+    let j : Bool → Verdict = λ v. cond v (Ok None) (Err EndsEarly) in
+    elim (ends (at .stage)) as (λ v. Goes (j v) input [] at (beginning (j v) [] at (λ _ next. end (next .place))))
+    [ true ↦ refl | false ↦ refl ]
 at-bytes input (b ∷ bs) at e =
     at-record (judged (b ∷ bs) (at .stage) (at .junctions)) input b bs at e (found (b ∷ bs) (at .stage) (at .junctions))
 

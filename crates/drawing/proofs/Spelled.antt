@@ -16,7 +16,7 @@ use Rattle.drawing.specs.declared.kind.Kind.the-variants as k
 use Rattle.drawing.specs.Numbers.{numberIn}
 use Rattle.drawing.specs.Kinds.{letterOf, widths, sum, bodyOf, lengthOf}
 use Rattle.drawing.specs.Records.{stated, spelt}
-use Rattle.drawing.specs.Reading.{State, start, Answer, tooLong, Judged, judged, told, step}
+use Rattle.drawing.specs.Reading.{State, start, Answer, tooLong, Verdict, judged, told, step}
 use Rattle.drawing.specs.Ahead.{Drawn, refused, drawnFrom, drawn, recordsLeft}
 use Rattle.drawing.specs.Spelling.{Value, orNone, written, Holds, Fields, Spells, Kept, Tells, Covers}
 use Rattle.drawing.proofs.Found.{Found, found}
@@ -101,7 +101,7 @@ spells kind b bs rest p l h e =
     let all = fields (widths kind) vs bs rest 0 (omega arith) behind (matches kind b bs p) in
     subst (λ (x : Kind). (b ≡ letterOf x) × Fields (widths x) vs bs rest) (sym (kind-spelt kind (b ∷ bs) p)) (l, all)
 
-tells-told : (j : Judged) (input bs : List ℕ) (at : State) → drop (at .place) input ≡ bs → Found j bs
+tells-told : (j : Verdict) (input bs : List ℕ) (at : State) → drop (at .place) input ≡ bs → Found j bs
     → Tells (told j bs at .0) input (at .place) (told j bs at .1 .place)
 tells-told (Err f) input bs at e w = (refl, refl)
 tells-told (Ok None) input [] at e w = e

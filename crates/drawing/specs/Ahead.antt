@@ -11,7 +11,7 @@ use Rattle.refusal.specs.declared.Refusal.{Refusal}
 use Rattle.drawing.specs.declared.reader.Reader.{Reader}
 use Rattle.drawing.specs.Kinds.{bodyOf}
 use Rattle.drawing.specs.Records.{Said, spelt}
-use Rattle.drawing.specs.Reading.{State, start, stateOf, Answer, Judged, judged, refusalAt, tooLong, passed}
+use Rattle.drawing.specs.Reading.{State, start, stateOf, Answer, Verdict, judged, refusalAt, tooLong, passed}
 
 -- records, each with its place and what it says, up to the end, with its place, or to the reader's refusal
 pub data Drawn : Type 0 where
@@ -20,7 +20,7 @@ pub data Drawn : Type 0 where
   refused : Refusal → Drawn
 
 -- what the checks found at the front of the bytes bs, and then what comes behind the body of a record, by `next`
-abbrev pub beginning : Judged → List ℕ → State → (ℕ → State → Drawn) → Drawn
+abbrev pub beginning : Verdict → List ℕ → State → (ℕ → State → Drawn) → Drawn
 beginning (Err f) bs at next = refused (refusalAt f (at .place))
 beginning (Ok None) bs at next = end (at .place)
 beginning (Ok (Some p)) bs at next =

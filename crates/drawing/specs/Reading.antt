@@ -57,32 +57,32 @@ tooLong = refusalAt InputTooLong 0
 
 -- what the checks find at the front of the bytes: a record of a kind, with the stage after it; an allowed end; or the
 -- first fault
-abbrev pub Judged : Type 0
-Judged = Result (Option (Kind × Stage)) Fault
+abbrev pub Verdict : Type 0
+Verdict = Result (Option (Kind × Stage)) Fault
 
 -- fourth, the fields of the record are right
-abbrev pub fielded : Option Fault → Kind × Stage → Judged
+abbrev pub fielded : Option Fault → Kind × Stage → Verdict
 fielded None p = Ok (Some p)
 fielded (Some f) p = Err f
 
 -- second, the kind has a place here; third, the record is there whole
-abbrev pub placed : Kind → Option Stage → List ℕ → ℕ → Judged
+abbrev pub placed : Kind → Option Stage → List ℕ → ℕ → Verdict
 placed kind None bs n = Err ByteNotAllowed
 placed kind (Some next) bs n =
     cond (ltb (length bs) (lengthOf kind)) (Err EndsEarly) (fielded (wrong kind bs n) (kind, next))
 
 -- first, the byte is the letter of a kind
-abbrev pub lettered : Option Kind → List ℕ → Stage → ℕ → Judged
+abbrev pub lettered : Option Kind → List ℕ → Stage → ℕ → Verdict
 lettered None bs stage n = Err ByteNotAllowed
 lettered (Some kind) bs stage n = placed kind (follows stage kind) bs n
 
 -- all of them, on the bytes that are left, at a stage of a drawing of n junctions
-abbrev pub judged : List ℕ → Stage → ℕ → Judged
+abbrev pub judged : List ℕ → Stage → ℕ → Verdict
 judged [] stage n = cond (ends stage) (Ok None) (Err EndsEarly)
 judged (b ∷ bs) stage n = lettered (kindOf b) (b ∷ bs) stage n
 
 -- a record that the checks find is there whole
-abbrev pub Whole : Judged → List ℕ → Type 0
+abbrev pub Whole : Verdict → List ℕ → Type 0
 Whole (Err f) bs = Unit {0}
 Whole (Ok None) bs = Unit {0}
 Whole (Ok (Some p)) bs = lengthOf (p .0) ≤ length bs
@@ -98,7 +98,7 @@ passed p bs at = record {
 }
 
 -- the answer, and where the reader then stands: behind the record, or where it stood
-abbrev pub told : Judged → List ℕ → State → Answer × State
+abbrev pub told : Verdict → List ℕ → State → Answer × State
 told (Err f) bs at = (Err (refusalAt f (at .place)), at)
 told (Ok None) bs at = (Ok None, at)
 told (Ok (Some p)) bs at = (Ok (Some (spelt (p .0) bs (at .place))), passed p bs at)

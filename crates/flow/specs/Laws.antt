@@ -34,7 +34,7 @@ abbrev pub Headrooms-fill : Type 0
 Headrooms-fill = (g : Net) (k : ℕ) → Sound g →
     headroom (g .reaches) (2 * k) + headroom (g .reaches) (2 * k + 1) ≡ arcAt (g .reaches) k .limit
 
--- what leaves and what enters a junction stays below 2,048,000,000 and a bit: at most the highest limit on every reach
+-- what leaves and what enters a junction is at most the highest limit on every reach: 2,048,000,000
 abbrev pub Amounts-bounded : Type 0
 Amounts-bounded = (g : Net) (v : ℕ) → Sound g →
     (leaving v (g .reaches) ≤ highestLimit * mostReaches) × (entering v (g .reaches) ≤ highestLimit * mostReaches)

@@ -27,8 +27,12 @@ module _ (rs : List Arc) (k : ℕ) where
 
   -- a reach that is told is there
   pub told-low : (r : Reach) → Told rs k (Ok r) → k < length rs
-  told-low r t = ⊎-elim (λ low. low) (λ high. absurd (let z : _≡_ {A = ℕ} 0 1 = cc (reach-past high, t .0) in omega arith)) (cases-lt k (length rs))
+  told-low r t = ⊎-elim (λ low. low)
+      (λ high. absurd (let z : _≡_ {A = ℕ} 0 1 = cc (reach-past high, t .0) in omega arith))
+      (cases-lt k (length rs))
 
   -- one that is there is not refused
   pub told-high : (e : Refusal) → Told rs k (Err e) → length rs ≤ k
-  told-high e t = ⊎-elim (λ low. absurd (let z : _≡_ {A = ℕ} 0 1 = cc (reach-there low, t .0 .0) in omega arith)) (λ high. high) (cases-lt k (length rs))
+  told-high e t = ⊎-elim
+      (λ low. absurd (let z : _≡_ {A = ℕ} 0 1 = cc (reach-there low, t .0 .0) in omega arith)) (λ high. high)
+      (cases-lt k (length rs))

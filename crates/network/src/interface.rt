@@ -58,13 +58,15 @@ pub trait Network {
     fn carry(&mut self, k: usize, amount: u32) -> Result<(), Refusal>
         requires { ⌜ fits (now self) ⌝ }
         ensures fit { λ _. ⌜ fits (now (self .exit)) ⌝ }
-        ensures done { λ r. ⌜ Changed (changes.Carry amount) (meaning (now (self .entry))) (giver (now (self .entry))) k r (meaning (now (self .exit))) ⌝ }
+        ensures done { λ r. ⌜ Changed (changes.Carry amount) (meaning (now (self .entry))) (giver (now (self .entry))) k r
+            (meaning (now (self .exit))) ⌝ }
         ensures giver { λ _. ⌜ ((j : ℕ) → giver (now (self .exit)) j ≡ giver (now (self .entry)) j) ⌝ };
 
     // Sets the limit of reach k. Refuses 4, then 5, then 6.
     fn limit(&mut self, k: usize, q: u32) -> Result<(), Refusal>
         requires { ⌜ fits (now self) ⌝ }
         ensures fit { λ _. ⌜ fits (now (self .exit)) ⌝ }
-        ensures done { λ r. ⌜ Changed (changes.Limit q) (meaning (now (self .entry))) (giver (now (self .entry))) k r (meaning (now (self .exit))) ⌝ }
+        ensures done { λ r. ⌜ Changed (changes.Limit q) (meaning (now (self .entry))) (giver (now (self .entry))) k r
+            (meaning (now (self .exit))) ⌝ }
         ensures giver { λ _. ⌜ ((j : ℕ) → giver (now (self .exit)) j ≡ giver (now (self .entry)) j) ⌝ };
 }

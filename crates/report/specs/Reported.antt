@@ -12,7 +12,7 @@ use Rattle.flow.specs.Flows.{delivered}
 use Rattle.flow.specs.Changes.{relimited, drained}
 use Rattle.network.specs.declared.change.Change.the-variants as change
 use Rattle.network.specs.Changing.{changeChecks}
-use Rattle.table.specs.Drafting.{fresh, shapeChecks, shaped, layChecks, laid}
+use Rattle.table.specs.Drafting.{fresh, shapeChecks, withShape, layChecks, withReach}
 use Rattle.drawing.specs.Records.{shape, name, reach, tableEnd, chamber, source, sink, limit, settle, drain, bottleneck, tally}
 use Rattle.drawing.specs.Ahead.{Drawn, item, end, refused, drawn}
 use Rattle.report.specs.declared.command.Command.{Command}
@@ -57,8 +57,10 @@ misplaced p = refusedLine 11 p Reader ∷ []
 
 -- the lines of a drawing, from the draft that its records have come to, in a table with room for so many reaches
 abbrev pub draftLines : ℕ → Drawn → Net → Lines
-draftLines places (item p (shape n i o) rest) g = refusable (firstOf (shapeChecks g n i o)) p (draftLines places rest (shaped g n i o))
-draftLines places (item p (reach t h q) rest) g = refusable (firstOf (layChecks g places t h q)) p (draftLines places rest (laid g t h q))
+draftLines places (item p (shape n i o) rest) g =
+    refusable (firstOf (shapeChecks g n i o)) p (draftLines places rest (withShape g n i o))
+draftLines places (item p (reach t h q) rest) g =
+    refusable (firstOf (layChecks g places t h q)) p (draftLines places rest (withReach g t h q))
 draftLines places (item p (name j s q) rest) g = draftLines places rest g
 draftLines places (item p tableEnd rest) g = openedLines (asked rest) (λ _. Network) g
 draftLines places (item p (chamber j q) rest) g = misplaced p

@@ -12,7 +12,8 @@ use network::Network;
 pub fn carry_out<N: Network>(net: &mut N, command: Command, place: usize) -> Line
     requires { ⌜ fits (now net) ⌝ }
     ensures fit { λ _. ⌜ fits (now (net .exit)) ⌝ }
-    ensures done { λ r. ⌜ (lineText r, meaning (now (net .exit))) ≡ answered command place (giver (now (net .entry))) (meaning (now (net .entry))) ⌝ }
+    ensures done { λ r. ⌜ (lineText r, meaning (now (net .exit)))
+        ≡ answered command place (giver (now (net .entry))) (meaning (now (net .entry))) ⌝ }
     ensures giver { λ _. ⌜ ((j : ℕ) → giver (now (net .exit)) j ≡ giver (now (net .entry)) j) ⌝ }
 {
     match command {

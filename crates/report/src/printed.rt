@@ -18,7 +18,8 @@ const ROWS: usize = 1024;
 // Prints the lines that a desk has still to give.
 fn tell<N: Network + Drop, W: fmt::Write>(mut desk: Desk<'_, N>, f: &mut fmt::Formatter<W>) -> fmt::Result
     requires { ⌜ N·Network .fits (desk .network) ⌝ }
-    ensures { λ r. ⌜ Prints (W·Write .took) (now (f .entry)) r (text (rest (N·Network .meaning) (N·Network .giver) (desk .entry))) (now (f .exit)) ⌝ }
+    ensures { λ r. ⌜ Prints (W·Write .took) (now (f .entry)) r
+        (text (rest (N·Network .meaning) (N·Network .giver) (desk .entry))) (now (f .exit)) ⌝ }
 {
     while let Some(line) = desk.next() {
         writeln!(f, "{line}")?;

@@ -37,7 +37,8 @@ fn located(r: Result<(), Refusal>, place: usize) -> Result<(), Refusal>
 // Enters one record of the table, which is not its end, into the draft.
 fn enter(draft: &mut Draft<'_>, item: Record<'_>, place: usize) -> Result<(), Refusal>
     requires { ⌜ (said item ≡ tableEnd → ⊥) ⌝ }
-    ensures net { λ r. ⌜ Entered (placesIn (now (now (draft .entry) .rows))) (said (item .entry)) place (draftNet (now (draft .entry))) r (draftNet (now (draft .exit))) ⌝ }
+    ensures net { λ r. ⌜ Entered (placesIn (now (now (draft .entry) .rows))) (said (item .entry)) place
+        (draftNet (now (draft .entry))) r (draftNet (now (draft .exit))) ⌝ }
     ensures len { λ _. ⌜ length (now (now (draft .exit) .rows)) ≡ length (now (now (draft .entry) .rows)) ⌝ }
     ensures lender { λ _. ⌜ name (now (draft .exit) .rows) ≡ name (now (draft .entry) .rows) ⌝ }
 {
@@ -51,7 +52,8 @@ fn enter(draft: &mut Draft<'_>, item: Record<'_>, place: usize) -> Result<(), Re
 
 // Reads the records of the table into the draft, up to the table's end.
 fn lay_table(reader: &mut Reader<'_>, draft: &mut Draft<'_>) -> Result<(), Refusal>
-    ensures lines { λ r. ⌜ draftLines (placesIn (now (now (draft .entry) .rows))) (ahead (now (reader .entry))) (draftNet (now (draft .entry))) ≡ tableLines r (ahead (now (reader .exit))) (draftNet (now (draft .exit))) ⌝ }
+    ensures lines { λ r. ⌜ draftLines (placesIn (now (now (draft .entry) .rows))) (ahead (now (reader .entry)))
+        (draftNet (now (draft .entry))) ≡ tableLines r (ahead (now (reader .exit))) (draftNet (now (draft .exit))) ⌝ }
     ensures lender { λ _. ⌜ name (now (draft .exit) .rows) ≡ name (now (draft .entry) .rows) ⌝ }
 {
     'reading: loop {
@@ -70,7 +72,8 @@ fn lay_table(reader: &mut Reader<'_>, draft: &mut Draft<'_>) -> Result<(), Refus
 // or the refusal that is then the only line.
 pub fn open<'a, 't>(input: &'a [u8], rows: &'t mut [Row]) -> Result<Desk<'a, Table<'t>>, Refusal>
     ensures fit { λ r. ⌜ elim r [ Ok d ↦ TableFits (d .network) | Err _ ↦ Unit {0} ] ⌝ }
-    ensures lines { λ r. ⌜ reported (placesIn (now (rows .entry))) (now (input .entry)) ≡ elim r [ Ok d ↦ rest tableNet tableGiver d | Err e ↦ refusalLine e ∷ [] ] ⌝ }
+    ensures lines { λ r. ⌜ reported (placesIn (now (rows .entry))) (now (input .entry))
+        ≡ elim r [ Ok d ↦ rest tableNet tableGiver d | Err e ↦ refusalLine e ∷ [] ] ⌝ }
 {
     let mut reader = Reader::open(input)?;
     let mut draft = Draft::new(rows);

@@ -33,8 +33,8 @@ shapeChecks g n i o =
   ∷ check (eqb i o) 3 parts.Draft
   ∷ check (ltb 0 (length (g .reaches))) 14 parts.Draft ∷ []
 
-abbrev pub shaped : Net → ℕ → ℕ → ℕ → Net
-shaped g n i o = record { junctions = n; intake = i; outfall = o; reaches = g .reaches }
+abbrev pub withShape : Net → ℕ → ℕ → ℕ → Net
+withShape g n i o = record { junctions = n; intake = i; outfall = o; reaches = g .reaches }
 
 -- lay: whether the ends are junctions, whether they differ, the limit, and whether one of the table's places is left
 abbrev pub layChecks : Net → ℕ → ℕ → ℕ → ℕ → List Check
@@ -48,5 +48,5 @@ layChecks g places tail head q =
 abbrev pub laidRow : ℕ → ℕ → ℕ → Row
 laidRow tail head q = record { tail = tail; head = head; limit = q; carried = 0 }
 
-abbrev pub laid : Net → ℕ → ℕ → ℕ → Net
-laid g tail head q = withReaches g (g .reaches ++ (arcOfRow (laidRow tail head q) ∷ []))
+abbrev pub withReach : Net → ℕ → ℕ → ℕ → Net
+withReach g tail head q = withReaches g (g .reaches ++ (arcOfRow (laidRow tail head q) ∷ []))

@@ -4,7 +4,7 @@ ghost use lib.ListN.{length, set};
 ghost use denote.Ref.{name};
 ghost use Rattle.refusal.specs.Checks.{Judged, afterwards};
 ghost use Rattle.table.specs.Laid.{placesIn};
-ghost use Rattle.table.specs.Drafting.{draftNet, fresh, shapeChecks, shaped, layChecks, laid, laidRow};
+ghost use Rattle.table.specs.Drafting.{draftNet, fresh, shapeChecks, withShape, layChecks, withReach, laidRow};
 ghost use Rattle.table.specs.Tables.{tableNet, TableFits};
 use crate::draft::Draft;
 use crate::table::Table;
@@ -31,7 +31,8 @@ impl<'a> Draft<'a> {
     // Sets the number of junctions, the intake and the outfall. Refuses 1, 2, 3 and 14. Writes no row.
     pub fn shape(&mut self, n: u16, intake: u16, outfall: u16) -> Result<(), Refusal>
         ensures judged { λ r. ⌜ Judged (shapeChecks (draftNet (now (self .entry))) n intake outfall) r ⌝ }
-        ensures net { λ r. ⌜ draftNet (now (self .exit)) ≡ afterwards r (shaped (draftNet (now (self .entry))) n intake outfall) (draftNet (now (self .entry))) ⌝ }
+        ensures net { λ r. ⌜ draftNet (now (self .exit)) ≡ afterwards r
+            (withShape (draftNet (now (self .entry))) n intake outfall) (draftNet (now (self .entry))) ⌝ }
         ensures rows { λ _. ⌜ now (now (self .exit) .rows) ≡ now (now (self .entry) .rows) ⌝ }
         ensures lender { λ _. ⌜ name (now (self .exit) .rows) ≡ name (now (self .entry) .rows) ⌝ }
     {
@@ -55,9 +56,13 @@ impl<'a> Draft<'a> {
 
     // Lays a reach that carries nothing in the next row, whole, and writes no other row. Refuses 2, 3, 5 and 8.
     pub fn lay(&mut self, tail: u16, head: u16, limit: u32) -> Result<(), Refusal>
-        ensures judged { λ r. ⌜ Judged (layChecks (draftNet (now (self .entry))) (placesIn (now (now (self .entry) .rows))) tail head limit) r ⌝ }
-        ensures net { λ r. ⌜ draftNet (now (self .exit)) ≡ afterwards r (laid (draftNet (now (self .entry))) tail head limit) (draftNet (now (self .entry))) ⌝ }
-        ensures rows { λ r. ⌜ now (now (self .exit) .rows) ≡ afterwards r (set (now (now (self .entry) .rows)) (length (draftNet (now (self .entry)) .reaches)) (laidRow tail head limit)) (now (now (self .entry) .rows)) ⌝ }
+        ensures judged { λ r. ⌜ Judged
+            (layChecks (draftNet (now (self .entry))) (placesIn (now (now (self .entry) .rows))) tail head limit) r ⌝ }
+        ensures net { λ r. ⌜ draftNet (now (self .exit)) ≡ afterwards r
+            (withReach (draftNet (now (self .entry))) tail head limit) (draftNet (now (self .entry))) ⌝ }
+        ensures rows { λ r. ⌜ now (now (self .exit) .rows) ≡ afterwards r
+            (set (now (now (self .entry) .rows)) (length (draftNet (now (self .entry)) .reaches)) (laidRow tail head limit))
+            (now (now (self .entry) .rows)) ⌝ }
         ensures lender { λ _. ⌜ name (now (self .exit) .rows) ≡ name (now (self .entry) .rows) ⌝ }
     {
         if tail >= self.junctions || head >= self.junctions {

@@ -19,7 +19,8 @@ impl<'a> Table<'a> {
     pub fn change(&mut self, k: usize, change: Change) -> Result<(), Refusal>
         requires { ⌜ TableFits (now self) ⌝ }
         ensures fit { λ _. ⌜ TableFits (now (self .exit)) ⌝ }
-        ensures done { λ r. ⌜ Changed change (tableNet (now (self .entry))) (tableGiver (now (self .entry))) k r (tableNet (now (self .exit))) ⌝ }
+        ensures done { λ r. ⌜ Changed change (tableNet (now (self .entry))) (tableGiver (now (self .entry))) k r
+            (tableNet (now (self .exit))) ⌝ }
         ensures rows { λ r. ⌜ Written change (now (now (self .entry) .rows)) k r (now (now (self .exit) .rows)) ⌝ }
         ensures lender { λ _. ⌜ name (now (self .exit) .rows) ≡ name (now (self .entry) .rows) ⌝ }
     {

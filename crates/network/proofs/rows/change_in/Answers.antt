@@ -21,10 +21,11 @@ returns-then-k-min c =
     let rows = c .args .rows .now in
     let arcs = arcsOf rows (c .args .used) in
     let part = c .args .part in
+    let checks = changeChecks (c .args .change) arcs (λ _. part) (c .args .k) in
     let high = change-past (c .args .change) arcs (λ _. part) (c .args .k)
         (omega (arith, arcs-length rows (c .args .used), c .min .ensures)) in
     record {
-      done = (refused-by (Unit {0}) (changeChecks (c .args .change) arcs (λ _. part) (c .args .k)) NoReach Network (c .new .result) (c .new .ensures) high, refl);
+      done = (refused-by (Unit {0}) checks NoReach Network (c .new .result) (c .new .ensures) high, refl);
       rows = refl;
     }
 

@@ -21,10 +21,11 @@ returns-then-self-min c =
     let q = c .args .limit in
     let new = c .new-then-self-min in
     let many = arcs-used (d .rows .now) (d .used) (d .within) in
+    let checks = layChecks (draftNet d) (placesIn (d .rows .now)) t h q in
     let full = lay-full (draftNet d) (placesIn (d .rows .now)) t h q (omega arith) (omega arith) (c .if-tail-head .left) (omega arith)
         (omega (arith, many, c .min .ensures)) in
     record {
-      judged = refused-by (Unit {0}) (layChecks (draftNet d) (placesIn (d .rows .now)) t h q) NoPlace parts.Draft (new .result) (new .ensures) full;
+      judged = refused-by (Unit {0}) checks NoPlace parts.Draft (new .result) (new .ensures) full;
       net = refl;
       rows = refl;
       lender = refl;

@@ -26,7 +26,8 @@ returns c =
         fair = fair-changed change (t .rows .now) (t .used) (t .junctions) k (λ _. Network) (f .within) (f .fair)
             (called .result) (called .last .rows) (called .ensures .done .0) (called .ensures .rows);
       };
-      done = changed-net change (tableNet t) (tableGiver t) k (called .result) (arcsOf (called .last .rows) (t .used)) (called .ensures .done);
+      done = changed-net change (tableNet t) (tableGiver t) k (called .result) (arcsOf (called .last .rows) (t .used))
+          (called .ensures .done);
       rows = called .ensures .rows;
       lender = refl;
     }
