@@ -1,5 +1,6 @@
 -- The lines that a desk has still to give.
 use Prim.Native.Nat.{ℕ}
+use mathlib.Core.Path.{_≡_}
 use mathlib.Core.List.{[], _∷_}
 use Rattle.std.specs.declared.option.Option.{Option}
 use Rattle.std.specs.declared.option.Option.the-variants.{None, Some}
@@ -25,7 +26,7 @@ module _ {N : Type 0} (means : N → Net) (gives : N → ℕ → Part) where
   abbrev pub rest : Desk N → Lines
   rest d = restOf (d .phase) (asked (ahead (d .reader))) (gives (d .network)) (means (d .network))
 
--- the line that was given, if one was, and then the others
-abbrev pub given : Option Line → Lines → Lines
-given None ls = []
-given (Some l) ls = lineText l ∷ ls
+-- a line was given, and these lines come after it; or none was given, since none is left, then or later
+abbrev pub Gives : Option Line → Lines → Lines → Type 0
+Gives (Some l) before after = before ≡ lineText l ∷ after
+Gives None before after = (before ≡ []) × (after ≡ [])

@@ -1,12 +1,12 @@
 ghost use mathlib.Core.Path.{_≡_};
 ghost use mathlib.Core.List.{_∷_};
+ghost use lib.ListN.{length};
 ghost use Rattle.drawing.specs.Ahead.{ahead};
 ghost use Rattle.report.specs.declared.desk.Phase.the-variants as phases;
 ghost use Rattle.report.specs.Lines.{lineText, networkLine};
 ghost use Rattle.report.specs.Commands.{asked, askedAs};
 ghost use Rattle.report.specs.Reported.{openedLines};
-ghost use Rattle.report.specs.Rest.{rest, given};
-ghost use lib.ListN.{length};
+ghost use Rattle.report.specs.Rest.{rest, Gives};
 use crate::answer::carry_out;
 use crate::command::Command;
 use crate::line::Line;
@@ -42,13 +42,12 @@ fn next_command(reader: &mut Reader<'_>) -> Result<Option<(Command, usize)>, Ref
     ensures { λ r. ⌜ asked (ahead (now (reader .entry))) ≡ askedAs r (asked (ahead (now (reader .exit)))) ⌝ }
 {
     let place = reader.place();
-    match reader.next() {
-        Err(refusal) => Err(refusal),
-        Ok(None) => Ok(None),
-        Ok(Some(item)) => match Command::of(item) {
-            Some(command) => Ok(Some((command, place))),
-            None => Err(Refusal::new(Fault::ByteNotAllowed, Part::Reader).at(place)),
-        },
+    let Some(item) = reader.next()? else {
+        return Ok(None);
+    };
+    match Command::of(item) {
+        Some(command) => Ok(Some((command, place))),
+        None => Err(Refusal::new(Fault::ByteNotAllowed, Part::Reader).at(place)),
     }
 }
 
@@ -99,7 +98,7 @@ impl<'a, N: Network> Desk<'a, N> {
         requires fit { ⌜ fits (now self .network) ⌝ }
         requires phase { ⌜ now self .phase ≡ phases.Commands ⌝ }
         ensures fit { λ _. ⌜ fits (now (self .exit) .network) ⌝ }
-        ensures line { λ r. ⌜ rest meaning giver (now (self .entry)) ≡ given r (rest meaning giver (now (self .exit))) ⌝ }
+        ensures line { λ r. ⌜ Gives r (rest meaning giver (now (self .entry))) (rest meaning giver (now (self .exit))) ⌝ }
     {
         match next_command(&mut self.reader) {
             Err(refusal) => {
@@ -118,7 +117,7 @@ impl<'a, N: Network> Desk<'a, N> {
     pub fn next(&mut self) -> Option<Line>
         requires { ⌜ fits (now self .network) ⌝ }
         ensures fit { λ _. ⌜ fits (now (self .exit) .network) ⌝ }
-        ensures line { λ r. ⌜ rest meaning giver (now (self .entry)) ≡ given r (rest meaning giver (now (self .exit))) ⌝ }
+        ensures line { λ r. ⌜ Gives r (rest meaning giver (now (self .entry))) (rest meaning giver (now (self .exit))) ⌝ }
     {
         match self.phase {
             Phase::Opening => Some(self.open()),

@@ -11,6 +11,7 @@ ghost use Rattle.drawing.specs.Records.{said, tableEnd};
 ghost use Rattle.drawing.specs.Ahead.{ahead};
 ghost use Rattle.report.specs.Lines.{refusalLine};
 ghost use Rattle.report.specs.Reported.{draftLines, reported};
+ghost use Rattle.report.specs.Laws.{Told-once};
 ghost use Rattle.report.specs.Setups.{locatedAt, Entered, tableLines};
 ghost use Rattle.report.specs.Rest.{rest};
 use crate::desk::Desk;
@@ -74,6 +75,7 @@ pub fn open<'a, 't>(input: &'a [u8], rows: &'t mut [Row]) -> Result<Desk<'a, Tab
     ensures fit { λ r. ⌜ elim r [ Ok d ↦ TableFits (d .network) | Err _ ↦ Unit {0} ] ⌝ }
     ensures lines { λ r. ⌜ reported (placesIn (now (rows .entry))) (now (input .entry))
         ≡ elim r [ Ok d ↦ rest tableNet tableGiver d | Err e ↦ refusalLine e ∷ [] ] ⌝ }
+    ensures once { λ _. ⌜ Told-once (reported (placesIn (now (rows .entry))) (now (input .entry))) ⌝ }
 {
     let mut reader = Reader::open(input)?;
     let mut draft = Draft::new(rows);
