@@ -14,10 +14,10 @@ use Rattle.std.proofs.shelf.Tests.{cases-lt}
 use Rattle.std.proofs.shelf.Ways.{tells}
 use Rattle.flow.specs.Bounds.{mostReaches, highestLimit}
 use Rattle.flow.specs.Net.{Arc, Net, noArc, arcAt, Joined, Shaped, Within, Sound}
-use Rattle.flow.specs.Steps.{headroom}
+use Rattle.flow.specs.Steps.{begins, finishes, headroom}
 use Rattle.flow.specs.Flows.{sumOf, outOf, into, leaving, entering, delivered}
 use Rattle.flow.specs.Changes.{carrying, limiting, withReaches, reachChanged, recarried, relimited, drained}
-use Rattle.flow.specs.Laws.{Keeps-sound, One-changed, Drained-is-dry, Headrooms-fill, Amounts-bounded}
+use Rattle.flow.specs.Laws.{Keeps-sound, One-changed, Drained-is-dry, Two-steps, Amounts-bounded}
 use Rattle.flow.proofs.Sums.{sumOf-le, outOf-le, into-le, sumOf-none}
 
 -- what holds of every reach and of the reach past the end holds of reach k, wherever k is
@@ -111,13 +111,23 @@ drained-is-dry = record {
 }
 
 -- the halves of an even and of an odd step
-pub headrooms-fill : Headrooms-fill
-headrooms-fill g k s =
+fill : (g : Net) (k : ℕ) → Sound g →
+    headroom (g .reaches) (2 * k) + headroom (g .reaches) (2 * k + 1) ≡ arcAt (g .reaches) k .limit
+fill g k s =
     let within : arcAt (g .reaches) k .carried ≤ arcAt (g .reaches) k .limit =
         arc-has (λ r. r .carried ≤ r .limit) (g .reaches) k (s .within) (omega arith) in
     let even : 2 * k / 2 ≡ k = omega arith in
     let odd : (2 * k + 1) / 2 ≡ k = omega arith in
     rw (even, odd) (grind (arith, tells))
+
+forth : (rs : List Arc) (k : ℕ) → (begins rs (2 * k) ≡ arcAt rs k .tail) × (finishes rs (2 * k) ≡ arcAt rs k .head)
+forth rs k = let even : 2 * k / 2 ≡ k = omega arith in rw even (grind (arith, tells))
+
+back : (rs : List Arc) (k : ℕ) → (begins rs (2 * k + 1) ≡ arcAt rs k .head) × (finishes rs (2 * k + 1) ≡ arcAt rs k .tail)
+back rs k = let odd : (2 * k + 1) / 2 ≡ k = omega arith in rw odd (grind (arith, tells))
+
+pub two-steps : Two-steps
+two-steps = record { forth = forth; back = back; fill = fill }
 
 bounded : (f : Arc → ℕ) (g : Net) → Sound g → ((r : Arc) → f r ≤ r .carried) → sumOf f (g .reaches) ≤ highestLimit * mostReaches
 bounded f g s small =

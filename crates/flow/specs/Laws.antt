@@ -2,11 +2,12 @@
 use Prim.Native.Nat.{ℕ, _+_, _*_, _≤_, _<_}
 use mathlib.Core.Path.{_≡_}
 use mathlib.Core.Logic.{_≢_}
+use mathlib.Core.List.{List}
 use lib.IntN.{pos}
 use lib.ListN.{length}
 use Rattle.flow.specs.Bounds.{mostReaches, highestLimit}
 use Rattle.flow.specs.Net.{Arc, Net, Sound, arcAt}
-use Rattle.flow.specs.Steps.{headroom}
+use Rattle.flow.specs.Steps.{begins, finishes, headroom}
 use Rattle.flow.specs.Flows.{leaving, entering, delivered}
 use Rattle.flow.specs.Changes.{carrying, limiting, reachChanged, recarried, relimited, drained}
 
@@ -29,10 +30,15 @@ pub record Drained-is-dry : Type 0 where
   pub nothing : (g : Net) → delivered (drained g) ≡ pos 0
   pub each : (g : Net) (k : ℕ) → arcAt (drained g .reaches) k ≡ carrying 0 (arcAt (g .reaches) k)
 
--- the two steps along a reach have headroom for its limit, together
-abbrev pub Headrooms-fill : Type 0
-Headrooms-fill = (g : Net) (k : ℕ) → Sound g →
-    headroom (g .reaches) (2 * k) + headroom (g .reaches) (2 * k + 1) ≡ arcAt (g .reaches) k .limit
+-- step 2k goes along reach k from its tail to its head, and step 2k + 1 goes the same way back; the two have headroom
+-- for the limit of the reach, together
+pub record Two-steps : Type 0 where
+  pub forth : (rs : List Arc) (k : ℕ) →
+      (begins rs (2 * k) ≡ arcAt rs k .tail) × (finishes rs (2 * k) ≡ arcAt rs k .head)
+  pub back : (rs : List Arc) (k : ℕ) →
+      (begins rs (2 * k + 1) ≡ arcAt rs k .head) × (finishes rs (2 * k + 1) ≡ arcAt rs k .tail)
+  pub fill : (g : Net) (k : ℕ) → Sound g →
+      headroom (g .reaches) (2 * k) + headroom (g .reaches) (2 * k + 1) ≡ arcAt (g .reaches) k .limit
 
 -- what leaves and what enters a junction is at most the highest limit on every reach: 2,048,000,000
 abbrev pub Amounts-bounded : Type 0

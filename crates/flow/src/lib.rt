@@ -1,6 +1,6 @@
 // The meaning of networks and the mathematics about them. The definitions stand in specs/, the proofs in proofs/;
 // each function here is proved to meet a contract that is one law.
-ghost use Rattle.flow.specs.Laws.{Keeps-sound, One-changed, Drained-is-dry, Headrooms-fill, Amounts-bounded};
+ghost use Rattle.flow.specs.Laws.{Keeps-sound, One-changed, Drained-is-dry, Two-steps, Amounts-bounded};
 
 // Accepted changes and draining keep a network sound.
 pub fn keeps_sound_stands() -> u8
@@ -23,9 +23,9 @@ pub fn drained_is_dry_stands() -> u8
     0
 }
 
-// What a reach can still take forward and what it can give back make up its limit.
-pub fn headrooms_fill_stands() -> u8
-    ensures { λ _. ⌜ Headrooms-fill ⌝ }
+// The two steps along a reach, forth and back, and their headroom.
+pub fn two_steps_stands() -> u8
+    ensures { λ _. ⌜ Two-steps ⌝ }
 {
     0
 }

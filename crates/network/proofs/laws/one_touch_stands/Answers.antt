@@ -1,5 +1,5 @@
 use Rattle.network.proofs.Finding.{touch-laws}
-use Rattle.network.proofs.laws.touch_laws_stand.Needs as need
+use Rattle.network.proofs.laws.one_touch_stands.Needs as need
 
 pub returns : need.returns
 returns c = touch-laws
