@@ -45,7 +45,7 @@ module _ (was before after : Net) (k : ℕ) (low : k < length (was .reaches)) (s
   dried-more giver h =
       let same = getD-default (before .reaches) k noArc (arcAt (before .reaches) k) there in
       let dry = map-over-more (carrying 0) (was .reaches) (before .reaches) k (arcAt (before .reaches) k) low
-          (ap (λ (g : Net). g .reaches) so) same in
+      (ap (λ (g : Net). g .reaches) so) same in
       h .1 ∙ ap (λ (g : Net). withReaches g (recarried k 0 before .reaches)) so ∙ ap (withReaches was) dry
 
 pub dried-all : (k : ℕ) (g : Net) → length (g .reaches) ≤ k → driedTo k g ≡ drained g
@@ -53,4 +53,4 @@ dried-all k g high =
     let front : List Arc → List Arc = λ rs. map (carrying 0) rs ++ drop k (g .reaches) in
     let back : List Arc → List Arc = λ rs. map (carrying 0) (g .reaches) ++ rs in
     ap (withReaches g) (ap front (take-all k (g .reaches) high) ∙ ap back (drop-all k (g .reaches) high)
-        ∙ append-nil (map (carrying 0) (g .reaches)))
+    ∙ append-nil (map (carrying 0) (g .reaches)))

@@ -8,14 +8,22 @@ use network::Reach;
 fn out_of(reach: Reach, junction: u16) -> u32
     ensures { λ r. ⌜ r ≡ outOf junction (arcIn reach) ⌝ }
 {
-    if reach.tail == junction { reach.carried } else { 0 }
+    if reach.tail == junction {
+        reach.carried
+    } else {
+        0
+    }
 }
 
 // What a reach brings into a junction.
 fn into_junction(reach: Reach, junction: u16) -> u32
     ensures { λ r. ⌜ r ≡ into junction (arcIn reach) ⌝ }
 {
-    if reach.head == junction { reach.carried } else { 0 }
+    if reach.head == junction {
+        reach.carried
+    } else {
+        0
+    }
 }
 
 // What the network delivers: what leaves the intake minus what enters it, below 0 too. Never refused.

@@ -12,7 +12,12 @@ use std::test::*;
 use table::Draft;
 use table::TableNetwork;
 
-const BLANK: Row = Row { tail: 9, head: 9, limit: 9, carried: 9 };
+const BLANK: Row = Row {
+    tail: 9,
+    head: 9,
+    limit: 9,
+    carried: 9,
+};
 
 fn by_draft(fault: Fault) -> Result<(), Refusal> {
     Err(Refusal::new(fault, Part::Draft))

@@ -28,7 +28,11 @@ fn names_have_bytes_from_21_to_7e() -> Result<(), Fail> {
     for (letter, right) in [(0x20, false), (0x21, true), (0x7e, true), (0x7f, false)] {
         let mut input = *b"H\x00\x02\x00\x00\x00\x01N\x00\x01ABCDEFGHE";
         input[17] = letter;
-        let expected = if right { Ok(()) } else { at(Fault::ByteNotAllowed, 7) };
+        let expected = if right {
+            Ok(())
+        } else {
+            at(Fault::ByteNotAllowed, 7)
+        };
         check_eq(read_all(&input), expected)?;
     }
     Ok(())
@@ -56,10 +60,15 @@ fn record_at(place: usize) -> usize {
 
 #[test]
 fn a_drawing_may_end_after_its_table() -> Result<(), Fail> {
-    let input = *b"H\x00\x02\x00\x00\x00\x01N\x00\x01ABCDEFGHR\x00\x00\x00\x01\x00\x00\x00\x05EL\x00\x00\x00\x00\x00\x04TD";
+    let input =
+        *b"H\x00\x02\x00\x00\x00\x01N\x00\x01ABCDEFGHR\x00\x00\x00\x01\x00\x00\x00\x05EL\x00\x00\x00\x00\x00\x04TD";
     for cut in 0..37 {
         let whole = cut == 28 || cut >= 35;
-        let expected = if whole { Ok(()) } else { at(Fault::EndsEarly, record_at(cut)) };
+        let expected = if whole {
+            Ok(())
+        } else {
+            at(Fault::EndsEarly, record_at(cut))
+        };
         check_eq(read_all(&input[0..cut]), expected)?;
     }
     Ok(())
@@ -69,5 +78,8 @@ fn a_drawing_may_end_after_its_table() -> Result<(), Fail> {
 fn an_input_has_at_most_65536_bytes() -> Result<(), Fail> {
     let input = [b'H'; MOST_BYTES + 1];
     check_eq(read_all(&input), at(Fault::InputTooLong, 0))?;
-    check_eq(read_all(&input[0..MOST_BYTES]), at(Fault::ByteNotAllowed, 7))
+    check_eq(
+        read_all(&input[0..MOST_BYTES]),
+        at(Fault::ByteNotAllowed, 7),
+    )
 }

@@ -96,16 +96,16 @@ drained-at : (rs : List Arc) (k : ℕ) → arcAt (map (carrying 0) rs) k ≡ car
 drained-at rs k = ⊎-elim
     (λ (low : k < length rs). getD-map (carrying 0) rs k noArc noArc low)
     (λ (high : length rs ≤ k).
-        getD-past (map (carrying 0) rs) k noArc (simp length-map high) ∙ ap (carrying 0) (sym (getD-past rs k noArc high)))
+    getD-past (map (carrying 0) rs) k noArc (simp length-map high) ∙ ap (carrying 0) (sym (getD-past rs k noArc high)))
     (cases-lt k (length rs))
 
 pub drained-is-dry : Drained-is-dry
 drained-is-dry = record {
   nothing = λ g.
       let out : leaving (g .intake) (drained g .reaches) ≡ 0 =
-          sumOf-none (outOf (g .intake)) (carrying 0) (g .reaches) (λ r. grind (arith, tells)) in
+      sumOf-none (outOf (g .intake)) (carrying 0) (g .reaches) (λ r. grind (arith, tells)) in
       let back : entering (g .intake) (drained g .reaches) ≡ 0 =
-          sumOf-none (into (g .intake)) (carrying 0) (g .reaches) (λ r. grind (arith, tells)) in
+      sumOf-none (into (g .intake)) (carrying 0) (g .reaches) (λ r. grind (arith, tells)) in
       ap (λ (x : ℕ). pos x -ℤ pos (entering (g .intake) (drained g .reaches))) out ∙ ap (λ (x : ℕ). pos 0 -ℤ pos x) back;
   each = λ g k. drained-at (g .reaches) k;
 }
@@ -115,7 +115,7 @@ fill : (g : Net) (k : ℕ) → Sound g →
     headroom (g .reaches) (2 * k) + headroom (g .reaches) (2 * k + 1) ≡ arcAt (g .reaches) k .limit
 fill g k s =
     let within : arcAt (g .reaches) k .carried ≤ arcAt (g .reaches) k .limit =
-        arc-has (λ r. r .carried ≤ r .limit) (g .reaches) k (s .within) (omega arith) in
+    arc-has (λ r. r .carried ≤ r .limit) (g .reaches) k (s .within) (omega arith) in
     let even : 2 * k / 2 ≡ k = omega arith in
     let odd : (2 * k + 1) / 2 ≡ k = omega arith in
     rw (even, odd) (grind (arith, tells))
@@ -132,7 +132,7 @@ two-steps = record { forth = forth; back = back; fill = fill }
 bounded : (f : Arc → ℕ) (g : Net) → Sound g → ((r : Arc) → f r ≤ r .carried) → sumOf f (g .reaches) ≤ highestLimit * mostReaches
 bounded f g s small =
     let each : All (λ r. f r ≤ highestLimit) (g .reaches) = all-from-getD (λ r. f r ≤ highestLimit) (g .reaches) noArc
-        (λ k low. omega (arith, small (arcAt (g .reaches) k), fair-at g s k low .1, fair-at g s k low .2)) in
+    (λ k low. omega (arith, small (arcAt (g .reaches) k), fair-at g s k low .1, fair-at g s k low .2)) in
     omega (arith, sumOf-le f highestLimit (g .reaches) each, s .shaped .listed)
 
 pub amounts-bounded : Amounts-bounded

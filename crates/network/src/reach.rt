@@ -20,6 +20,10 @@ impl Reach {
     pub fn headroom(self, back: bool) -> u32
         ensures { λ r. ⌜ r ≡ cond back (self .carried) (self .limit - self .carried) ⌝ }
     {
-        if back { self.carried } else { self.limit - self.carried }
+        if back {
+            self.carried
+        } else {
+            self.limit - self.carried
+        }
     }
 }

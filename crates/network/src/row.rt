@@ -42,7 +42,12 @@ impl Row {
                 if amount > self.limit {
                     return Err(Refusal::new(Fault::AmountAboveLimit, part));
                 }
-                Ok(Row { tail: self.tail, head: self.head, limit: self.limit, carried: amount })
+                Ok(Row {
+                    tail: self.tail,
+                    head: self.head,
+                    limit: self.limit,
+                    carried: amount,
+                })
             }
             Change::Limit(q) => {
                 if q > HIGHEST_SETTING {
@@ -51,7 +56,12 @@ impl Row {
                 if q < self.carried {
                     return Err(Refusal::new(Fault::LimitBelowCarried, part));
                 }
-                Ok(Row { tail: self.tail, head: self.head, limit: q, carried: self.carried })
+                Ok(Row {
+                    tail: self.tail,
+                    head: self.head,
+                    limit: q,
+                    carried: self.carried,
+                })
             }
         }
     }

@@ -10,7 +10,13 @@ use refusal::Part;
 use refusal::Refusal;
 
 // Sets one number of one of the first `used` rows, for which the part answers.
-pub fn change_in(rows: &mut [Row], used: usize, k: usize, change: Change, part: Part) -> Result<(), Refusal>
+pub fn change_in(
+    rows: &mut [Row],
+    used: usize,
+    k: usize,
+    change: Change,
+    part: Part,
+) -> Result<(), Refusal>
     ensures done { λ r. ⌜ ChangedIn change (arcsOf (now (rows .entry)) used) (λ _. part) k r (arcsOf (now (rows .exit)) used) ⌝ }
     ensures rows { λ r. ⌜ Written change (now (rows .entry)) k r (now (rows .exit)) ⌝ }
 {

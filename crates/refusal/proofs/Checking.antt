@@ -67,7 +67,7 @@ refused-once cs e d h k =
     let fault : e .fault ≡ d .fault = number-tells (e .fault) (d .fault) (ap (λ (x : ℕ × Part). x .0) both) in
     let place : e .place ≡ d .place = h .1 ∙ sym (k .1) in
     ap (λ (f : Fault). make f (e .place) (e .part)) fault ∙ ap (λ (o : Option ℕ). make (d .fault) o (e .part)) place
-        ∙ ap (make (d .fault) (d .place)) part
+    ∙ ap (make (d .fault) (d .place)) part
   where
     make : Fault → Option ℕ → Part → Refusal
     make f o p = record { fault = f; place = o; part = p }

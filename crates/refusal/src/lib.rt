@@ -88,14 +88,22 @@ impl Refusal {
     pub fn new(fault: Fault, part: Part) -> Refusal
         ensures { λ r. ⌜ r ≡ unplaced fault part ⌝ }
     {
-        Refusal { fault, place: None, part }
+        Refusal {
+            fault,
+            place: None,
+            part,
+        }
     }
 
     // The same refusal, of the record at this place.
     pub fn at(self, place: usize) -> Refusal
         ensures { λ r. ⌜ r ≡ placedAt self place ⌝ }
     {
-        Refusal { fault: self.fault, place: Some(place), part: self.part }
+        Refusal {
+            fault: self.fault,
+            place: Some(place),
+            part: self.part,
+        }
     }
 }
 

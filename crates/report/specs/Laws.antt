@@ -26,4 +26,4 @@ isRefusal l = startsWith (codes "refused ") l
 abbrev pub Told-once : Lines → Type 0
 Told-once ls =
     ((l : List ℕ) × (ls ≡ l ∷ []) × (isRefusal l ≡ true))
-  ⊎ ((n m : ℕ) × (answers : Lines) × (ls ≡ networkLine n m ∷ answers) × All (λ l. isNetwork l ≡ false) answers)
+    ⊎ ((n m : ℕ) × (answers : Lines) × (ls ≡ networkLine n m ∷ answers) × All (λ l. isNetwork l ≡ false) answers)

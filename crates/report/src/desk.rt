@@ -57,7 +57,10 @@ fn network_line<N: Network>(net: &N) -> Line
     ensures { λ r. ⌜ lineText r ≡ networkLine (meaning (now (net .entry)) .junctions) (length (meaning (now (net .entry)) .reaches)) ⌝ }
 {
     let size = net.size();
-    Line::Network { junctions: size.junctions, reaches: size.reaches }
+    Line::Network {
+        junctions: size.junctions,
+        reaches: size.reaches,
+    }
 }
 
 impl<'a, N: Network> Desk<'a, N> {
@@ -67,7 +70,11 @@ impl<'a, N: Network> Desk<'a, N> {
         ensures fit { λ r. ⌜ fits (r .network) ⌝ }
         ensures lines { λ r. ⌜ rest meaning giver r ≡ openedLines (asked (ahead (reader .entry))) (giver network) (meaning network) ⌝ }
     {
-        Desk { reader, network, phase: Phase::Opening }
+        Desk {
+            reader,
+            network,
+            phase: Phase::Opening,
+        }
     }
 
     // The first line.

@@ -16,7 +16,10 @@ use table::TableNetwork;
 const ROWS: usize = 1024;
 
 // Prints the lines that a desk has still to give.
-fn tell<N: Network + Drop, W: fmt::Write>(mut desk: Desk<'_, N>, f: &mut fmt::Formatter<W>) -> fmt::Result
+fn tell<N: Network + Drop, W: fmt::Write>(
+    mut desk: Desk<'_, N>,
+    f: &mut fmt::Formatter<W>,
+) -> fmt::Result
     requires { ⌜ N·Network .fits (desk .network) ⌝ }
     ensures { λ r. ⌜ Prints (W·Write .took) (now (f .entry)) r
         (text (rest (N·Network .meaning) (N·Network .giver) (desk .entry))) (now (f .exit)) ⌝ }
@@ -35,7 +38,12 @@ pub impl fmt::Display for Report<'_> as ReportDisplay {
     ghost shown = { λ r. Some (text (reported 1024 (r .0 .now))) };
 
     fn fmt<W: fmt::Write>(&self, f: &mut fmt::Formatter<W>) -> fmt::Result {
-        let mut rows = [Row { tail: 0, head: 0, limit: 0, carried: 0 }; ROWS];
+        let mut rows = [Row {
+            tail: 0,
+            head: 0,
+            limit: 0,
+            carried: 0,
+        }; ROWS];
         match open(self.0, &mut rows) {
             Ok(desk) => tell(desk, f),
             Err(refusal) => writeln!(f, "{refusal}"),

@@ -44,7 +44,11 @@ fn enter(draft: &mut Draft<'_>, item: Record<'_>, place: usize) -> Result<(), Re
     ensures lender { λ _. ⌜ name (now (draft .exit) .rows) ≡ name (now (draft .entry) .rows) ⌝ }
 {
     match item {
-        Record::Shape { junctions, intake, outfall } => located(draft.shape(junctions, intake, outfall), place),
+        Record::Shape {
+            junctions,
+            intake,
+            outfall,
+        } => located(draft.shape(junctions, intake, outfall), place),
         Record::Reach { tail, head, limit } => located(draft.lay(tail, head, limit), place),
         Record::Name { .. } => Ok(()),
         _ => Err(Refusal::new(Fault::ByteNotAllowed, Part::Reader).at(place)),

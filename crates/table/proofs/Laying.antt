@@ -72,7 +72,7 @@ module _ (c : Change) (rows : List Row) (used n k : ℕ) (giver : ℕ → Part) 
       let low : k < length (arcsOf rows used) = accepted-low c (arcsOf rows used) giver k none in
       let old = fair k (omega (arith, arcs-used rows used within)) in
       let own = sym (ap (λ (r : Arc). firstOf (ownChecks c r (giver k))) (arcs-at rows used k low))
-          ∙ sym (change-there c (arcsOf rows used) giver k low) ∙ none in
+      ∙ sym (change-there c (arcsOf rows used) giver k low) ∙ none in
       let new = changed-bounded c (arcOfRow (getD rows k noRow)) (giver k) own (old .1, old .2) in
       same-ends c (getD rows k noRow) (old .0) new
     where
@@ -92,6 +92,6 @@ module _ (c : Change) (rows : List Row) (used n k : ℕ) (giver : ℕ → Part) 
       each : FairRows (set rows k (rowChanged c (getD rows k noRow))) used n
       each j less = ⊎-elim
           (λ (is : j ≡ k). subst (λ (i : ℕ). FairArc n (arcOfRow (getD (set rows k (rowChanged c (getD rows k noRow))) i noRow))) (sym is)
-              (subst (λ (x : Row). FairArc n (arcOfRow x)) (sym (getD-set-same rows k _ noRow low)) (rewritten judged)))
+          (subst (λ (x : Row). FairArc n (arcOfRow x)) (sym (getD-set-same rows k _ noRow low)) (rewritten judged)))
           (λ ne. subst (λ (x : Row). FairArc n (arcOfRow x)) (sym (getD-set-other rows k j _ noRow ne)) (fair j less))
           (cases-eq j k)

@@ -29,9 +29,9 @@ fresh = record { junctions = 2; intake = 0; outfall = 1; reaches = [] }
 abbrev pub shapeChecks : Net → ℕ → ℕ → ℕ → List Check
 shapeChecks g n i o =
     check (ltb n 2 || ltb mostDrafted n) 1 parts.Draft
-  ∷ check (leb n i || leb n o) 2 parts.Draft
-  ∷ check (eqb i o) 3 parts.Draft
-  ∷ check (ltb 0 (length (g .reaches))) 14 parts.Draft ∷ []
+    ∷ check (leb n i || leb n o) 2 parts.Draft
+    ∷ check (eqb i o) 3 parts.Draft
+    ∷ check (ltb 0 (length (g .reaches))) 14 parts.Draft ∷ []
 
 abbrev pub withShape : Net → ℕ → ℕ → ℕ → Net
 withShape g n i o = record { junctions = n; intake = i; outfall = o; reaches = g .reaches }
@@ -40,9 +40,9 @@ withShape g n i o = record { junctions = n; intake = i; outfall = o; reaches = g
 abbrev pub layChecks : Net → ℕ → ℕ → ℕ → ℕ → List Check
 layChecks g places tail head q =
     check (leb (g .junctions) tail || leb (g .junctions) head) 2 parts.Draft
-  ∷ check (eqb tail head) 3 parts.Draft
-  ∷ check (ltb highestSetting q) 5 parts.Draft
-  ∷ check (leb places (length (g .reaches))) 8 parts.Draft ∷ []
+    ∷ check (eqb tail head) 3 parts.Draft
+    ∷ check (ltb highestSetting q) 5 parts.Draft
+    ∷ check (leb places (length (g .reaches))) 8 parts.Draft ∷ []
 
 -- a laid row carries nothing
 abbrev pub laidRow : ℕ → ℕ → ℕ → Row

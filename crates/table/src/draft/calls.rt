@@ -16,6 +16,7 @@ use refusal::Refusal;
 
 // The most junctions that a shape may have, and the most rows of a table that are used.
 const MOST_DRAFTED: u16 = 256;
+
 const MOST_ROWS: usize = 1024;
 
 impl<'a> Draft<'a> {
@@ -25,7 +26,13 @@ impl<'a> Draft<'a> {
         ensures rows { λ r. ⌜ now (r .rows) ≡ now (rows .entry) ⌝ }
         ensures lender { λ r. ⌜ name (r .rows) ≡ name (rows .entry) ⌝ }
     {
-        Draft { rows, used: 0, junctions: 2, intake: 0, outfall: 1 }
+        Draft {
+            rows,
+            used: 0,
+            junctions: 2,
+            intake: 0,
+            outfall: 1,
+        }
     }
 
     // Sets the number of junctions, the intake and the outfall. Refuses 1, 2, 3 and 14. Writes no row.
@@ -77,7 +84,12 @@ impl<'a> Draft<'a> {
         if self.used >= self.rows.len().min(MOST_ROWS) {
             return Err(Refusal::new(Fault::NoPlace, Part::Draft));
         }
-        self.rows[self.used] = Row { tail, head, limit, carried: 0 };
+        self.rows[self.used] = Row {
+            tail,
+            head,
+            limit,
+            carried: 0,
+        };
         self.used += 1;
         Ok(())
     }
@@ -89,7 +101,19 @@ impl<'a> Draft<'a> {
         ensures rows { λ r. ⌜ now (r .rows) ≡ now (self .entry .rows) ⌝ }
         ensures lender { λ r. ⌜ name (r .rows) ≡ name (self .entry .rows) ⌝ }
     {
-        let Draft { rows, used, junctions, intake, outfall } = self;
-        Table { rows, used, junctions, intake, outfall }
+        let Draft {
+            rows,
+            used,
+            junctions,
+            intake,
+            outfall,
+        } = self;
+        Table {
+            rows,
+            used,
+            junctions,
+            intake,
+            outfall,
+        }
     }
 }

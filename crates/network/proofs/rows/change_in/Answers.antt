@@ -23,7 +23,7 @@ returns-then-k-min c =
     let part = c .args .part in
     let checks = changeChecks (c .args .change) arcs (λ _. part) (c .args .k) in
     let high = change-past (c .args .change) arcs (λ _. part) (c .args .k)
-        (omega (arith, arcs-length rows (c .args .used), c .min .ensures)) in
+    (omega (arith, arcs-length rows (c .args .used), c .min .ensures)) in
     record {
       done = (refused-by (Unit {0}) checks NoReach Network (c .new .result) (c .new .ensures) high, refl);
       rows = refl;
@@ -39,7 +39,7 @@ returns-in-Break-rows c =
     let own = c .in-Break-rows .ensures tt in
     let p = err-from-errBy (c .from-residual .result) (c .from-residual .ensures .1) in
     let judged = change-there (c .args .change) (arcsOf rows used) (λ _. part) k low
-        ∙ ap (λ (r : Arc). firstOf (ownChecks (c .args .change) r part)) (arcs-at rows used k low) in
+    ∙ ap (λ (r : Arc). firstOf (ownChecks (c .args .change) r part)) (arcs-at rows used k low) in
     rw (p .1, p .2) (record { done = ((judged ∙ own .0 .0, own .0 .1), refl); rows = refl })
 
 pub returns : need.returns
@@ -51,9 +51,9 @@ returns c =
     let low : k < length (arcsOf rows used) = omega (arith, arcs-length rows used, c .min .ensures) in
     let own = c .in-Continue-rows .ensures tt in
     let judged = change-there (c .args .change) (arcsOf rows used) (λ _. part) k low
-        ∙ ap (λ (r : Arc). firstOf (ownChecks (c .args .change) r part)) (arcs-at rows used k low) in
+    ∙ ap (λ (r : Arc). firstOf (ownChecks (c .args .change) r part)) (arcs-at rows used k low) in
     let new = ap arcOfRow (own .1) ∙ arc-changed (c .args .change) (getD rows k noRow)
-        ∙ ap (changed (c .args .change)) (sym (arcs-at rows used k low)) in
+    ∙ ap (changed (c .args .change)) (sym (arcs-at rows used k low)) in
     record {
       done = (judged ∙ own .0, arcs-set rows used k _ low ∙ ap (set (arcsOf rows used) k) new);
       rows = ap (set rows k) (own .1);

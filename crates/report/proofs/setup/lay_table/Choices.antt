@@ -12,7 +12,7 @@ abbrev pub Inv-reading : given.InvT-reading
 Inv-reading l =
     let places = placesIn (l .entry .draft .rows .now) in
     (draftLines places (ahead (l .reader)) (draftNet (l .draft))
-        ≡ draftLines places (ahead (l .entry .reader)) (draftNet (l .entry .draft)))
+    ≡ draftLines places (ahead (l .entry .reader)) (draftNet (l .entry .draft)))
     × (length (l .draft .rows .now) ≡ length (l .entry .draft .rows .now))
     × (name (l .draft .rows) ≡ name (l .entry .draft .rows))
 

@@ -23,7 +23,7 @@ returns-then-self-min c =
     let many = arcs-used (d .rows .now) (d .used) (d .within) in
     let checks = layChecks (draftNet d) (placesIn (d .rows .now)) t h q in
     let full = lay-full (draftNet d) (placesIn (d .rows .now)) t h q (omega arith) (omega arith) (c .if-tail-head .left) (omega arith)
-        (omega (arith, many, c .min .ensures)) in
+    (omega (arith, many, c .min .ensures)) in
     record {
       judged = refused-by (Unit {0}) checks NoPlace parts.Draft (new .result) (new .ensures) full;
       net = refl;
@@ -37,10 +37,29 @@ ghost-self c =
     let row = laidRow (c .args .tail) (c .args .head) (c .args .limit) in
     let ends : Joined (d .junctions) (arcOfRow row) = (omega arith, omega arith, c .if-tail-head .left) in (
       simp length-set (omega (arith, c .min .ensures)),
-      (omega (arith, c .min .ensures),
-      (d .two, (d .many, (d .inside, (d .outside, (d .differ,
-      (fair-more (d .rows .now) (d .used) row (omega (arith, c .min .ensures)) (d .junctions) (d .fair)
-          (ends, omega arith, omega arith), tt))))))),
+      (
+        omega (arith, c .min .ensures),
+        (
+          d .two,
+          (
+            d .many,
+            (
+              d .inside,
+              (
+                d .outside,
+                (
+                  d .differ,
+                  (
+                    fair-more (d .rows .now) (d .used) row (omega (arith, c .min .ensures)) (d .junctions) (d .fair)
+                        (ends, omega arith, omega arith),
+                    tt,
+                  ),
+                ),
+              ),
+            ),
+          ),
+        ),
+      ),
     )
 
 pub returns : need.returns

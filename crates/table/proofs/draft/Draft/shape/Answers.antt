@@ -15,7 +15,7 @@ returns-then-self-gt0 c =
     let o = c .args .outfall in
     let new = c .new-then-self-gt0 in
     let late = shape-late (draftNet d) n i o (omega arith) (omega arith) (omega arith) (omega arith) (c .if-intake-outfall .left)
-        (omega (arith, arcs-used (d .rows .now) (d .used) (d .within))) in
+    (omega (arith, arcs-used (d .rows .now) (d .used) (d .within))) in
     record {
       judged = refused-by (Unit {0}) (shapeChecks (draftNet d) n i o) TooLate parts.Draft (new .result) (new .ensures) late;
       net = refl;
