@@ -17,11 +17,12 @@ use Rattle.network.specs.Changing.{changeChecks}
 use Rattle.table.specs.Drafting.{fresh, shapeChecks, withShape, layChecks, withReach}
 use Rattle.drawing.specs.Records.{shape, name, reach, tableEnd, chamber, source, sink, limit, settle, drain, bottleneck, tally}
 use Rattle.drawing.specs.Ahead.{Drawn, item, end, refused, drawn}
-use Rattle.report.specs.declared.command.Command.{Command}
-use Rattle.report.specs.declared.command.Command.the-variants as command
-use Rattle.report.specs.Lines.{Lines}
-use Rattle.report.specs.Commands.{Asked, ask, done, turned, asked}
-use Rattle.report.specs.Reported.{limited, answered, commandLines, openedLines, refusable, draftLines, reported}
+use Rattle.desk.specs.declared.command.Command.{Command}
+use Rattle.desk.specs.declared.command.Command.the-variants as command
+use Rattle.desk.specs.Lines.{Lines}
+use Rattle.desk.specs.Commands.{Asked, ask, done, turned, asked}
+use Rattle.desk.specs.Answering.{limited, answered, commandLines, openedLines}
+use Rattle.report.specs.Reported.{refusable, draftLines, reported}
 use Rattle.report.specs.Laws.{isNetwork, Told-once}
 
 limited-not : (o : Option (ℕ × Part)) (k q p : ℕ) (g : Net) → isNetwork (limited o k q p g .0) ≡ false

@@ -5,7 +5,7 @@ use Prim.Native.Nat.{ℕ}
 use Rattle.std.specs.declared.fmt.Formatter.{Formatter}
 use Rattle.std.specs.Written.{Plain, Put}
 use Rattle.std.proofs.Writes.{wrote-none, put-more, put-is}
-use Rattle.report.specs.Lines.{Lines, text}
+use Rattle.desk.specs.Lines.{Lines, text}
 
 module _ {W : Type 0} (took : W → List ℕ → W → Type 0) where
   -- from the formatter f to h some bytes were written, and with the text of the lines that are left they are that of all

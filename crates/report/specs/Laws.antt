@@ -8,7 +8,7 @@ use lib.Chars.{codes}
 use lib.Dec.{eqb}
 use lib.ListN.{length}
 use Rattle.std.specs.shelf.Lists.{All}
-use Rattle.report.specs.Lines.{Lines, networkLine}
+use Rattle.desk.specs.Lines.{Lines, networkLine}
 
 -- whether a line begins with these bytes
 abbrev pub startsWith : List ℕ → List ℕ → Bool

@@ -1,6 +1,3 @@
-pub mod Lines
-pub mod Commands
 pub mod Reported
 pub mod Laws
 pub mod Setups
-pub mod Rest

@@ -10,9 +10,10 @@ use Rattle.refusal.specs.Checks.{placedAt}
 use Rattle.flow.specs.Net.{Net}
 use Rattle.drawing.specs.Records.{Said}
 use Rattle.drawing.specs.Ahead.{Drawn, item}
-use Rattle.report.specs.Lines.{Lines, refusalLine}
-use Rattle.report.specs.Commands.{asked}
-use Rattle.report.specs.Reported.{draftLines, openedLines}
+use Rattle.desk.specs.Lines.{Lines, refusalLine}
+use Rattle.desk.specs.Commands.{asked}
+use Rattle.desk.specs.Answering.{openedLines}
+use Rattle.report.specs.Reported.{draftLines}
 
 -- an answer with the place of the record that was refused
 abbrev pub locatedAt : Result Unit Refusal → ℕ → Result Unit Refusal

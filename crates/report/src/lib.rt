@@ -1,14 +1,7 @@
-// What is printed for a drawing: each line, a desk that answers a drawing line by line, and the whole report.
-pub mod answer;
-pub mod command;
-pub mod desk;
-pub mod line;
+// The whole report of a drawing: from its bytes to a desk over its network, and all that is printed.
 pub mod printed;
 pub mod setup;
 
-pub use command::Command;
-pub use desk::Desk;
-pub use line::Line;
-pub use line::LineDisplay;
 pub use printed::Report;
 pub use printed::ReportDisplay;
+pub use setup::open;

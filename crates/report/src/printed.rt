@@ -1,11 +1,11 @@
 ghost use Rattle.std.specs.declared.option.Option.the-variants.{Some};
 ghost use Rattle.std.specs.Written.{Prints};
-ghost use Rattle.report.specs.Lines.{text};
+ghost use Rattle.desk.specs.Lines.{text};
 ghost use Rattle.report.specs.Reported.{reported};
-ghost use Rattle.report.specs.Rest.{rest};
-use crate::desk::Desk;
-use crate::line::LineDisplay;
+ghost use Rattle.desk.specs.Rest.{rest};
 use crate::setup::open;
+use desk::Desk;
+use desk::LineDisplay;
 use network::Network;
 use network::Row;
 use refusal::RefusalDisplay;

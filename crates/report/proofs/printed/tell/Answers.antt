@@ -1,7 +1,7 @@
 use mathlib.Core.Path.{refl}
 use mathlib.Core.Bool.{true}
-use Rattle.report.specs.Lines.{lineText}
-use Rattle.report.specs.Rest.{rest}
+use Rattle.desk.specs.Lines.{lineText}
+use Rattle.desk.specs.Rest.{rest}
 use Rattle.report.proofs.Telling.{one-more}
 use Rattle.report.proofs.printed.tell.Needs as need
 

@@ -1,6 +1,6 @@
 use lib.ListN.{length}
 use Rattle.std.specs.Written.{Plain}
-use Rattle.report.specs.Rest.{rest}
+use Rattle.desk.specs.Rest.{rest}
 use Rattle.report.proofs.Telling.{Sofar}
 use Rattle.report.proofs.printed.tell.Given as given
 

@@ -9,8 +9,9 @@ use Rattle.network.specs.declared.row.Row.{Row}
 use Rattle.table.specs.Laid.{placesIn}
 use Rattle.table.specs.Drafting.{draftNet, fresh}
 use Rattle.drawing.specs.Ahead.{Drawn, ahead}
-use Rattle.report.specs.Commands.{asked}
-use Rattle.report.specs.Reported.{openedLines, draftLines}
+use Rattle.desk.specs.Commands.{asked}
+use Rattle.desk.specs.Answering.{openedLines}
+use Rattle.report.specs.Reported.{draftLines}
 use Rattle.report.proofs.Once.{told-once}
 use Rattle.report.proofs.setup.open.Needs as need
 

@@ -1,5 +1,5 @@
 ghost use Rattle.std.specs.declared.option.Option.the-variants.{Some};
-ghost use Rattle.report.specs.Lines.{lineText};
+ghost use Rattle.desk.specs.Lines.{lineText};
 use refusal::Refusal;
 use refusal::RefusalDisplay;
 use std::fmt;

@@ -1,7 +1,7 @@
 ghost use mathlib.Core.Path.{_≡_};
 ghost use Prim.Native.Nat.{ℕ};
-ghost use Rattle.report.specs.Lines.{lineText};
-ghost use Rattle.report.specs.Reported.{answered};
+ghost use Rattle.desk.specs.Lines.{lineText};
+ghost use Rattle.desk.specs.Answering.{answered};
 use crate::command::Command;
 use crate::line::Line;
 use calls::drain;

@@ -9,8 +9,8 @@ use Rattle.refusal.specs.declared.Refusal.{Refusal}
 use Rattle.drawing.specs.Records.{Said, shape, name, reach, tableEnd, chamber, source, sink, limit, settle, drain, bottleneck, tally}
 use Rattle.drawing.specs.Reading.{refusalAt}
 use Rattle.drawing.specs.Ahead.{Drawn, item, end, refused}
-use Rattle.report.specs.declared.command.Command.{Command}
-use Rattle.report.specs.declared.command.Command.the-variants as command
+use Rattle.desk.specs.declared.command.Command.{Command}
+use Rattle.desk.specs.declared.command.Command.the-variants as command
 
 -- the command that a record gives; chambers, sources, sinks, settling and bottlenecks are read, but have none yet
 abbrev pub commandOf : Said → Option Command

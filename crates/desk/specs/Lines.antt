@@ -9,8 +9,8 @@ use Rattle.refusal.specs.declared.Part.{Part}
 use Rattle.refusal.specs.declared.Refusal.{Refusal}
 use Rattle.refusal.specs.Numbers.{numberOf}
 use Rattle.refusal.specs.Texts.{refusalText}
-use Rattle.report.specs.declared.line.Line.{Line}
-use Rattle.report.specs.declared.line.Line.the-variants as line
+use Rattle.desk.specs.declared.line.Line.{Line}
+use Rattle.desk.specs.declared.line.Line.the-variants as line
 
 -- network JUNCTIONS REACHES
 abbrev pub networkLine : ℕ → ℕ → List ℕ

@@ -1,6 +1,6 @@
 ghost use mathlib.Core.Path.{_≡_};
 ghost use Rattle.drawing.specs.Records.{said};
-ghost use Rattle.report.specs.Commands.{commandOf};
+ghost use Rattle.desk.specs.Commands.{commandOf};
 use drawing::Record;
 
 // A command that the program carries out.

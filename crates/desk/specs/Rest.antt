@@ -7,13 +7,13 @@ use Rattle.std.specs.declared.option.Option.the-variants.{None, Some}
 use Rattle.refusal.specs.declared.Part.{Part}
 use Rattle.flow.specs.Net.{Net}
 use Rattle.drawing.specs.Ahead.{ahead}
-use Rattle.report.specs.declared.line.Line.{Line}
-use Rattle.report.specs.declared.desk.Desk.{Desk}
-use Rattle.report.specs.declared.desk.Phase.{Phase}
-use Rattle.report.specs.declared.desk.Phase.the-variants as phase
-use Rattle.report.specs.Lines.{Lines, lineText}
-use Rattle.report.specs.Commands.{Asked, ask, asked}
-use Rattle.report.specs.Reported.{commandLines, openedLines}
+use Rattle.desk.specs.declared.line.Line.{Line}
+use Rattle.desk.specs.declared.desk.Desk.{Desk}
+use Rattle.desk.specs.declared.desk.Phase.{Phase}
+use Rattle.desk.specs.declared.desk.Phase.the-variants as phase
+use Rattle.desk.specs.Lines.{Lines, lineText}
+use Rattle.desk.specs.Commands.{Asked, ask, asked}
+use Rattle.desk.specs.Answering.{commandLines, openedLines}
 
 abbrev pub restOf : Phase → Asked → (ℕ → Part) → Net → Lines
 restOf phase.Opening a giver g = openedLines a giver g
