@@ -94,6 +94,26 @@ fn limits_and_carried_amounts() -> Result<(), Fail> {
     check_eq(tally(&net), 0)
 }
 
+// The example of docs/NETWORK.md.
+fn example() -> Result<i64, Refusal> {
+    let mut rows = [BLANK; 8];
+    let mut draft = Draft::new(&mut rows);
+    draft.shape(3, 0, 2)?;
+    draft.lay(0, 1, 500)?;
+    draft.lay(1, 2, 400)?;
+    let mut net = draft.commission();
+    net.carry(0, 300)?;
+    net.carry(1, 300)?;
+    let delivered = tally(&net);
+    drain(&mut net);
+    Ok(delivered)
+}
+
+#[test]
+fn the_example_delivers_300() -> Result<(), Fail> {
+    check_eq(example(), Ok(300))
+}
+
 #[test]
 fn touch_gives_the_lowest_from_k_on() -> Result<(), Fail> {
     let mut rows = [BLANK; 3];

@@ -6,6 +6,7 @@ ghost use Rattle.desk.specs.declared.desk.Phase.the-variants as phases;
 ghost use Rattle.desk.specs.Lines.{lineText, networkLine};
 ghost use Rattle.desk.specs.Commands.{asked, askedAs};
 ghost use Rattle.desk.specs.Answering.{openedLines};
+ghost use Rattle.desk.specs.Laws.{linesFor};
 ghost use Rattle.desk.specs.Rest.{rest, Gives};
 use crate::answer::carry_out;
 use crate::command::Command;
@@ -69,6 +70,7 @@ impl<'a, N: Network> Desk<'a, N> {
         requires { ⌜ fits network ⌝ }
         ensures fit { λ r. ⌜ fits (r .network) ⌝ }
         ensures lines { λ r. ⌜ rest meaning giver r ≡ openedLines (asked (ahead (reader .entry))) (giver network) (meaning network) ⌝ }
+        ensures count { λ r. ⌜ length (rest meaning giver r) ≡ linesFor (asked (ahead (reader .entry))) ⌝ }
     {
         Desk {
             reader,

@@ -61,7 +61,7 @@ matches k.Drain b bs p = tt
 matches k.Bottleneck b bs p = tt
 matches k.Tally b bs p = tt
 
-kind-spelt : (kind : Kind) (bs : List ℕ) (p : ℕ) → written (spelt kind bs p) .0 ≡ kind
+pub kind-spelt : (kind : Kind) (bs : List ℕ) (p : ℕ) → written (spelt kind bs p) .0 ≡ kind
 kind-spelt k.Shape bs p = refl
 kind-spelt k.Name bs p = refl
 kind-spelt k.Reach bs p = refl

@@ -11,7 +11,7 @@ use Rattle.refusal.specs.declared.Refusal.{Refusal}
 use Rattle.drawing.specs.declared.reader.Reader.{Reader}
 use Rattle.drawing.specs.Kinds.{bodyOf}
 use Rattle.drawing.specs.Records.{Said, spelt}
-use Rattle.drawing.specs.Reading.{State, start, stateOf, Answer, Verdict, judged, refusalAt, tooLong, passed}
+use Rattle.drawing.specs.Reading.{State, start, stateOf, Answer, Verdict, judged, refusalAt, mostBytes, tooLong, passed}
 
 -- records, each with its place and what it says, up to the end, with its place, or to the reader's refusal
 pub data Drawn : Type 0 where
@@ -42,7 +42,7 @@ ahead r = drawnFrom (r .input .now) (stateOf r)
 
 -- what a whole input says
 unfoldable pub drawn : List ℕ → Drawn
-drawn input = cond (ltb 65536 (length input)) (refused tooLong) (drawnFrom input start)
+drawn input = cond (ltb mostBytes (length input)) (refused tooLong) (drawnFrom input start)
 
 -- an answer at a place, and then what the reader still has ahead
 abbrev pub spoken : Answer → ℕ → Drawn → Drawn

@@ -4,3 +4,4 @@ pub mod Records
 pub mod Reading
 pub mod Ahead
 pub mod Spelling
+pub mod Order

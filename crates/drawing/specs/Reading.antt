@@ -49,7 +49,11 @@ answerOf (Err e) = Err e
 abbrev pub refusalAt : Fault → ℕ → Refusal
 refusalAt f p = placedAt (unplaced f part.Reader) p
 
--- the refusal of an input of over 65,536 bytes
+-- the most bytes that an input may have
+abbrev pub mostBytes : ℕ
+mostBytes = 65536
+
+-- the refusal of a longer input
 abbrev pub tooLong : Refusal
 tooLong = refusalAt InputTooLong 0
 

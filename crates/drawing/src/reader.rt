@@ -3,8 +3,10 @@ ghost use mathlib.Core.Path.{_≡_};
 ghost use Prim.Native.Nat.{_≤_, _<_};
 ghost use lib.ListN.{length, drop};
 ghost use Rattle.std.specs.declared.result.Result.the-variants.{Ok, Err};
-ghost use Rattle.drawing.specs.Reading.{judged, Whole, stepOf, stateOf, answerOf, start, tooLong, Within};
+ghost use Rattle.drawing.specs.Reading.{judged, Whole, stepOf, stateOf, answerOf, start, tooLong, Within, mostBytes};
 ghost use Rattle.drawing.specs.Ahead.{ahead, drawn, refused, spoken, Leaves};
+ghost use Rattle.drawing.specs.declared.kind.Stage.the-variants as stages;
+ghost use Rattle.drawing.specs.Order.{InOrder};
 ghost use Rattle.drawing.specs.Spelling.{Covers, Tells};
 use crate::kind::Kind;
 use crate::kind::Stage;
@@ -58,10 +60,11 @@ fn judge(bs: &[u8], stage: Stage, junctions: u16) -> Result<Option<(Kind, Stage)
 impl<'a> Reader<'a> {
     // A reader at the start of the input, which is refused where it is too long.
     pub fn open(input: &'a [u8]) -> Result<Reader<'a>, Refusal>
-        ensures long { λ r. ⌜ elim r [ Ok _ ↦ length (now (input .entry)) ≤ 65536 | Err _ ↦ 65536 < length (now (input .entry)) ] ⌝ }
+        ensures long { λ r. ⌜ elim r [ Ok _ ↦ length (now (input .entry)) ≤ mostBytes | Err _ ↦ mostBytes < length (now (input .entry)) ] ⌝ }
         ensures ahead { λ r. ⌜ elim r [ Ok o ↦ ahead o ≡ drawn (now (input .entry)) | Err e ↦ refused e ≡ drawn (now (input .entry)) ] ⌝ }
         ensures state { λ r. ⌜ elim r [ Ok o ↦ (o .input ≡ input .entry) × (stateOf o ≡ start) | Err e ↦ e ≡ tooLong ] ⌝ }
         ensures covers { λ _. ⌜ Covers (drawn (now (input .entry))) (now (input .entry)) 0 ⌝ }
+        ensures order { λ _. ⌜ InOrder stages.Start (drawn (now (input .entry))) ⌝ }
     {
         if input.len() > MOST_BYTES {
             return Err(Refusal::new(Fault::InputTooLong, Part::Reader).at(0));

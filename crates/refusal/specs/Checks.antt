@@ -12,7 +12,8 @@ use Rattle.refusal.specs.declared.Part.{Part}
 use Rattle.refusal.specs.declared.Refusal.{Refusal}
 use Rattle.refusal.specs.Numbers.{numberOf}
 
--- one check of a call: whether it applies, the number that the call then refuses with, and the part that says so
+-- one check of a call: whether it applies, the number that the call then refuses with, and the part that says so.
+-- (Tests of numbers read: leb a b, a is at most b; ltb a b, a is below b; eqb a b, a is b.)
 pub data Check : Type 0 where
   check : Bool → ℕ → Part → Check
 

@@ -1,6 +1,7 @@
 use borrow.Author.Needs.{needs}
 use Rattle.drawing.specs.Ahead.{drawn}
 use Rattle.drawing.proofs.Spelled.{covers}
+use Rattle.drawing.proofs.Ordered.{in-order}
 use Rattle.drawing.proofs.reader.Reader.open.Needs as need
 
 pub returns-then-input-gt-MOST-BYTES : need.returns-then-input-gt-MOST-BYTES
@@ -10,6 +11,7 @@ returns-then-input-gt-MOST-BYTES c = record {
   ahead = search needs;
   state = search needs;
   covers = covers (c .args .input .now);
+  order = in-order (c .args .input .now);
 }
 
 pub returns : need.returns
@@ -19,4 +21,5 @@ returns c = record {
   ahead = search needs;
   state = search needs;
   covers = covers (c .args .input .now);
+  order = in-order (c .args .input .now);
 }
