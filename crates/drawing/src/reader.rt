@@ -60,7 +60,10 @@ fn judge(bs: &[u8], stage: Stage, junctions: u16) -> Result<Option<(Kind, Stage)
 impl<'a> Reader<'a> {
     // A reader at the start of the input, which is refused where it is too long.
     pub fn open(input: &'a [u8]) -> Result<Reader<'a>, Refusal>
-        ensures long { λ r. ⌜ elim r [ Ok _ ↦ length (now (input .entry)) ≤ mostBytes | Err _ ↦ mostBytes < length (now (input .entry)) ] ⌝ }
+        ensures long { λ r. ⌜ elim r [
+          | Ok _ ↦ length (now (input .entry)) ≤ mostBytes
+          | Err _ ↦ mostBytes < length (now (input .entry))
+        ] ⌝ }
         ensures ahead { λ r. ⌜ elim r [ Ok o ↦ ahead o ≡ drawn (now (input .entry)) | Err e ↦ refused e ≡ drawn (now (input .entry)) ] ⌝ }
         ensures state { λ r. ⌜ elim r [ Ok o ↦ (o .input ≡ input .entry) × (stateOf o ≡ start) | Err e ↦ e ≡ tooLong ] ⌝ }
         ensures covers { λ _. ⌜ Covers (drawn (now (input .entry))) (now (input .entry)) 0 ⌝ }
