@@ -19,6 +19,8 @@ abbrev pub refusable : Option (ℕ × Part) → ℕ → Lines → Lines
 refusable (Some r) p ls = refusedLine (r .0) p (r .1) ∷ []
 refusable None p ls = ls
 
+-- a record that has no place in the table. (The reader gives none, and no end before that of the table: `InOrder` in crate
+-- drawing. These cases are here since a definition speaks of every list of records.)
 abbrev pub misplaced : ℕ → Lines
 misplaced p = refusedLine 11 p Reader ∷ []
 
