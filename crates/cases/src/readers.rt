@@ -38,12 +38,30 @@ fn names_have_bytes_from_21_to_7e() -> Result<(), Fail> {
     Ok(())
 }
 
-#[test]
-fn a_drawing_begins_with_its_shape() -> Result<(), Fail> {
-    for letter in *b"NRECIOLSDBT" {
-        check_eq(read_all(&[letter, 0, 0]), at(Fault::ByteNotAllowed, 0))?;
+// A drawing with a record at each stage, and one byte more. A record begins at 0, 7, 8, 15, 22 and 29.
+const STAGES: [u8; 30] =
+    *b"H\x00\x02\x00\x00\x00\x01EC\x00\x00\x00\x00\x00\x01I\x00\x00\x00\x00\x00\x01L\x00\x00\x00\x00\x00\x01T";
+
+// None of the letters may stand at the place.
+fn out_of_place(place: usize, letters: &[u8]) -> Result<(), Fail> {
+    check(place < 30)?;
+    for letter in letters {
+        let mut input = STAGES;
+        input[place] = *letter;
+        check_eq(read_all(&input), at(Fault::ByteNotAllowed, place))?;
     }
     Ok(())
+}
+
+#[test]
+fn each_kind_out_of_its_place() -> Result<(), Fail> {
+    check_eq(read_all(&STAGES), Ok(()))?;
+    out_of_place(0, b"NRECIOLSDBT")?;
+    out_of_place(7, b"HCIOLSDBT")?;
+    out_of_place(8, b"HNRE")?;
+    out_of_place(15, b"HNRE")?;
+    out_of_place(22, b"HNREC")?;
+    out_of_place(29, b"HNRECIO")
 }
 
 // Where the record at each byte of the drawing below begins.
