@@ -1,4 +1,6 @@
 // Reads a drawing from standard input and prints its report. All that matters is in crate `report`.
+#![tactic(auto)]
+
 use drawing::reader::MOST_BYTES;
 use report::Report;
 use std::io;

@@ -1,4 +1,6 @@
 // Calls over every network, each proved once, against the interface's meaning.
+#![tactic(auto)]
+
 pub mod draining;
 pub mod tallying;
 

@@ -1,4 +1,6 @@
 // Chambers: a layer over any network, which limits what passes a junction.
+#![tactic(auto)]
+
 pub mod chambers;
 
 pub use chambers::Chambers;

@@ -1,4 +1,6 @@
 // The commands of a drawing, answered line by line over any network.
+#![tactic(auto)]
+
 pub mod answer;
 pub mod command;
 pub mod desk;

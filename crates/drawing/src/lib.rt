@@ -1,4 +1,6 @@
 // Reads a drawing: its bytes, as a list of records.
+#![tactic(auto)]
+
 pub mod kind;
 pub mod reader;
 pub mod record;

@@ -1,5 +1,7 @@
 // Reads drawings as text, one a line: a name, a space, and the drawing's bytes in hexadecimal digits, or '-' for no
 // bytes. Prints for each a line `drawing NAME` and then its report.
+#![tactic(auto)]
+
 ghost use Rattle.std.specs.Prelude.{◌<◌, IfOk};
 
 use anyhow::anyhow;

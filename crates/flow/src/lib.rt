@@ -1,5 +1,7 @@
 // The meaning of networks and the mathematics about them. The definitions stand in specs/, the proofs in proofs/;
 // each function here is proved to meet a contract that is one law.
+#![tactic(auto)]
+
 ghost use Rattle.flow.specs.Laws.{KeepsSound, OneChanged, DrainedIsDry, TwoSteps, AmountsBounded};
 
 // Accepted changes and draining keep a network sound.

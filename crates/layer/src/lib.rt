@@ -1,5 +1,7 @@
 // What all layers share. A layer is a network that stands over any other network, holds it by value, and adds
 // reaches of its own behind those of the network below.
+#![tactic(auto)]
+
 pub mod ends;
 pub mod entering;
 pub mod laws;

@@ -74,11 +74,11 @@ pub trait Network {
 
 // Sets one number of reach k of any network, by the call that sets it.
 pub fn apply<N: Network>(net: &mut N, k: usize, change: Change) -> Result<(), Refusal>
-    requires { fits net.old }
-    ensures fit { fits net.new }
-    ensures done { Changed change (meaning net.old) (giver net.old) k result
-        (meaning net.new) }
-    ensures giver { (j : ℕ) → giver net.new j ≡ giver net.old j }
+    requires { N.fits net.old }
+    ensures fit { N.fits net.new }
+    ensures done { Changed change (N.meaning net.old) (N.giver net.old) k result
+        (N.meaning net.new) }
+    ensures giver { (j : ℕ) → N.giver net.new j ≡ N.giver net.old j }
 {
     match change {
         Change::Carry(amount) => net.carry(k, amount),

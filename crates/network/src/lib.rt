@@ -1,4 +1,6 @@
 // Networks: the interface that every network offers, the record of a reach, and the plain rows that networks are kept in.
+#![tactic(auto)]
+
 pub mod bounds;
 pub mod change;
 pub mod interface;

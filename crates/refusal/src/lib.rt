@@ -1,5 +1,7 @@
 // Refusals: the fourteen numbered reasons for which a call turns its input down, the part of the software that
 // gives a refusal, and its place in the input where it has one.
+#![tactic(auto)]
+
 ghost use Rattle.std.specs.Prelude.{◌≡◌, Some};
 ghost use Rattle.refusal.specs.Numbers.{number_of, word_of};
 ghost use Rattle.refusal.specs.Texts.{place_text, refusal_text};

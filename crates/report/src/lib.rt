@@ -1,4 +1,6 @@
 // The whole report of a drawing: from its bytes to a desk over its network, and all that is printed.
+#![tactic(auto)]
+
 pub mod printed;
 pub mod setup;
 

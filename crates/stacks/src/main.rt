@@ -1,6 +1,8 @@
 // Puts layers over tables and over each other: stacks as dice draw them, and two towers that grow until no place is
 // left. Prints what each call answers, and what each network is. tools/make_stacks.py makes the same lines from the
 // rules alone.
+#![tactic(auto)]
+
 mod dice;
 mod drawn;
 mod lines;
