@@ -11,12 +11,12 @@ step bs i v h e = at_drop_more printed bs i 0 h ∙ ap (λ (w : Bool). cond w (p
 pub loop-b-preserved : goal.loop-b-preserved
 loop-b-preserved c =
     let here = step c.args.name.now c.loop-b.b-index true c.loop-b-test.true in
-    sym (here c.if-not-is-visible.ensures) ∙ c.loop-b.invariant
+    sym (here c.if-not-is_visible.ensures) ∙ c.loop-b.invariant
 
-pub returns-then-not-is-visible : goal.returns-then-not-is-visible
-returns-then-not-is-visible c =
+pub returns-then-not-is_visible : goal.returns-then-not-is_visible
+returns-then-not-is_visible c =
     let here = step c.args.name.now c.loop-b.b-index false c.loop-b-test.true in
-    sym (here c.if-not-is-visible.ensures) ∙ c.loop-b.invariant
+    sym (here c.if-not-is_visible.ensures) ∙ c.loop-b.invariant
 
 pub returns : goal.returns
 returns c = sym (at_drop_all printed c.args.name.now c.loop-b.b-index c.loop-b-test.false) ∙ c.loop-b.invariant

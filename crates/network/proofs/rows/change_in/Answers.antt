@@ -26,15 +26,15 @@ returns-then-k-min c =
       rows = refl;
     }
 
-pub returns-in-err-rows : goal.returns-in-err-rows
-returns-in-err-rows c =
+pub returns-in_err-rows : goal.returns-in_err-rows
+returns-in_err-rows c =
     let rows = c.args.rows.now in
     let used = c.args.used in
     let k = c.args.k in
     let part = c.args.part in
     let low : k < length (arcs_of rows used) = omega (arith, arcs_length rows used, c.min.ensures) in
-    let own = c.in-err-rows.ensures in
-    let p = err_from_is_err_and c.from-residual.result c.from-residual.ensures.1 in
+    let own = c.in_err-rows.ensures in
+    let p = err_from_is_err_and c.from_residual.result c.from_residual.ensures.1 in
     let judged = change_there c.args.change (arcs_of rows used) (λ _. part) k low
     ∙ ap (λ (r : Arc). first_of (own_checks c.args.change r part)) (arcs_at rows used k low) in
     rw (p.1, p.2) (record { done = ((judged ∙ own.0.0, own.0.1), refl); rows = refl })
@@ -46,7 +46,7 @@ returns c =
     let k = c.args.k in
     let part = c.args.part in
     let low : k < length (arcs_of rows used) = omega (arith, arcs_length rows used, c.min.ensures) in
-    let own = c.in-ok-rows.ensures in
+    let own = c.in_ok-rows.ensures in
     let judged = change_there c.args.change (arcs_of rows used) (λ _. part) k low
     ∙ ap (λ (r : Arc). first_of (own_checks c.args.change r part)) (arcs_at rows used k low) in
     let new = ap arc_of_row own.1 ∙ arc_changed c.args.change (get_or rows k no_row)

@@ -17,8 +17,8 @@ read-record-requires c =
       fits = omega (arith, ap length c.rest-bs.ensures, length-drop here.place here.input.now);
     }
 
-pub overflow-add-self : goal.overflow-add-self
-overflow-add-self c =
+pub overflow_add-self : goal.overflow_add-self
+overflow_add-self c =
     let here = c.args.self.now in
     let there : length_of c.in-Ok-Some.kind ≤ length c.rest-bs.result.now = search rules in
     omega (arith, ap length c.rest-bs.ensures, length-drop here.place here.input.now, c.length.ensures)
@@ -58,7 +58,7 @@ returns-in-Ok-Some c =
     let after : State = record {
       place = here.place + c.length.result;
       stage = c.in-Ok-Some.stage;
-      junctions = c.junctions-after.result;
+      junctions = c.junctions_after.result;
     } in
     let told : (a, after) ≡ step here.input.now (state_of here) = search rules in
     let on = onward here.input.now (state_of here) after a told in

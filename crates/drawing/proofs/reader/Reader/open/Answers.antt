@@ -4,9 +4,9 @@ use Rattle.drawing.proofs.Spelled.{covers}
 use Rattle.drawing.proofs.Ordered.{in_order}
 use Rattle.drawing.proofs.reader.Reader.open.Goals as goal
 
-pub returns-then-input-gt-MOST-BYTES : goal.returns-then-input-gt-MOST-BYTES
+pub returns-then-input-gt-MOST_BYTES : goal.returns-then-input-gt-MOST_BYTES
 unfolding drawn
-returns-then-input-gt-MOST-BYTES c = record {
+returns-then-input-gt-MOST_BYTES c = record {
   long = search rules;
   ahead = search rules;
   state = search rules;
