@@ -5,10 +5,10 @@ use network::Network;
 
 // Sets every carried amount to 0. Never refused.
 pub fn drain<N: Network>(net: &mut N)
-    requires { fits net.old }
-    ensures fit { fits net.new }
-    ensures done { meaning net.new ≡ drained (meaning net.old) }
-    ensures giver { (j : ℕ) → giver net.new j ≡ giver net.old j }
+    requires { N.fits net.old }
+    ensures fit { N.fits net.new }
+    ensures done { N.meaning net.new ≡ drained (N.meaning net.old) }
+    ensures giver { (j : ℕ) → N.giver net.new j ≡ N.giver net.old j }
 {
     for k in 0..net.size().reaches {
         match net.carry(k, 0) {

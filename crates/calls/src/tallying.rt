@@ -28,8 +28,8 @@ fn into_junction(reach: Reach, junction: u16) -> u32
 
 // What the network delivers: what leaves the intake minus what enters it, below 0 too. Never refused.
 pub fn tally<N: Network>(net: &N) -> i64
-    requires { fits net.now }
-    ensures { result ≡ delivered (meaning net.now) }
+    requires { N.fits net.now }
+    ensures { result ≡ delivered (N.meaning net.now) }
 {
     let size = net.size();
     let mut sum: i64 = 0;

@@ -9,11 +9,11 @@ use network::Network;
 
 // Carries out a command whose record stands at the place, over any network, and gives the line that says so.
 pub fn carry_out<N: Network>(net: &mut N, command: Command, place: usize) -> Line
-    requires { fits net.old }
-    ensures fit { fits net.new }
-    ensures done { (line_text result, meaning net.new)
-        ≡ answered command place (giver net.old) (meaning net.old) }
-    ensures giver { (j : ℕ) → giver net.new j ≡ giver net.old j }
+    requires { N.fits net.old }
+    ensures fit { N.fits net.new }
+    ensures done { (line_text result, N.meaning net.new)
+        ≡ answered command place (N.giver net.old) (N.meaning net.old) }
+    ensures giver { (j : ℕ) → N.giver net.new j ≡ N.giver net.old j }
 {
     match command {
         Command::Limit { reach, limit } => match net.limit(reach as usize, limit) {

@@ -51,8 +51,8 @@ fn next_command(reader: &mut Reader<'_>) -> Result<Option<(Command, usize)>, Ref
 
 // The line that tells the size of a network.
 fn network_line<N: Network>(net: &N) -> Line
-    requires { fits net.now }
-    ensures { line_text result ≡ network_line (meaning net.now).junctions (length (meaning net.now).reaches) }
+    requires { N.fits net.now }
+    ensures { line_text result ≡ network_line (N.meaning net.now).junctions (length (N.meaning net.now).reaches) }
 {
     let size = net.size();
     Line::Network {
@@ -64,10 +64,10 @@ fn network_line<N: Network>(net: &N) -> Line
 impl<'a, N: Network> Desk<'a, N> {
     // A desk for the commands that the reader has ahead of it.
     pub fn new(reader: Reader<'a>, network: N) -> Desk<'a, N>
-        requires { fits network }
-        ensures fit { fits result.network }
-        ensures lines { rest meaning giver result ≡ opened_lines (asked (ahead reader.entry)) (giver network) (meaning network) }
-        ensures count { length (rest meaning giver result) ≡ lines_for (asked (ahead reader.entry)) }
+        requires { N.fits network }
+        ensures fit { N.fits result.network }
+        ensures lines { rest N.meaning N.giver result ≡ opened_lines (asked (ahead reader.entry)) (N.giver network) (N.meaning network) }
+        ensures count { length (rest N.meaning N.giver result) ≡ lines_for (asked (ahead reader.entry)) }
     {
         Desk {
             reader,
@@ -78,10 +78,10 @@ impl<'a, N: Network> Desk<'a, N> {
 
     // The first line.
     fn open(&mut self) -> Line
-        requires fit { fits self.old.network }
+        requires fit { N.fits self.old.network }
         requires phase { self.old.phase ≡ phases.Opening }
-        ensures fit { fits self.new.network }
-        ensures line { rest meaning giver self.old ≡ line_text result ∷ rest meaning giver self.new }
+        ensures fit { N.fits self.new.network }
+        ensures line { rest N.meaning N.giver self.old ≡ line_text result ∷ rest N.meaning N.giver self.new }
     {
         match next_command(&mut self.reader) {
             Err(refusal) => {
@@ -101,10 +101,10 @@ impl<'a, N: Network> Desk<'a, N> {
 
     // The line of the next command, once the network is told.
     fn command(&mut self) -> Option<Line>
-        requires fit { fits self.old.network }
+        requires fit { N.fits self.old.network }
         requires phase { self.old.phase ≡ phases.Commands }
-        ensures fit { fits self.new.network }
-        ensures line { Gives result (rest meaning giver self.old) (rest meaning giver self.new) }
+        ensures fit { N.fits self.new.network }
+        ensures line { Gives result (rest N.meaning N.giver self.old) (rest N.meaning N.giver self.new) }
     {
         match next_command(&mut self.reader) {
             Err(refusal) => {
@@ -121,9 +121,9 @@ impl<'a, N: Network> Desk<'a, N> {
 
     // The next line, or nothing where all lines were given.
     pub fn next(&mut self) -> Option<Line>
-        requires { fits self.old.network }
-        ensures fit { fits self.new.network }
-        ensures line { Gives result (rest meaning giver self.old) (rest meaning giver self.new) }
+        requires { N.fits self.old.network }
+        ensures fit { N.fits self.new.network }
+        ensures line { Gives result (rest N.meaning N.giver self.old) (rest N.meaning N.giver self.new) }
     {
         match self.phase {
             Phase::Opening => Some(self.open()),

@@ -27,8 +27,8 @@ impl End {
 
 // The lowest reach number from k on whose reach has the junction at this end, found among those that touch it.
 pub fn next_at<N: Network>(net: &N, end: End, junction: u16, k: usize) -> Option<usize>
-    requires { fits net.now }
-    ensures { FirstFrom (λ a. end_of end a ≡ junction) (meaning net.now).reaches k result }
+    requires { N.fits net.now }
+    ensures { FirstFrom (λ a. end_of end a ≡ junction) (N.meaning net.now).reaches k result }
 {
     let mut from = k;
     while let Some(i) = net.touch(junction, from) {

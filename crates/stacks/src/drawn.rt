@@ -102,7 +102,7 @@ fn draw_entries<L: Layer>(out: &mut Out, dice: &mut Dice, layer: &mut L, n: u16,
 
 // Puts chambers over a network.
 pub fn draw_chambers<N: Network>(out: &mut Out, dice: &mut Dice, net: N) -> Chambers<N>
-    requires { fits net }
+    requires { N.fits net }
     ensures { ChambersFits N.Network.meaning N.Network.fits result }
 {
     let n = net.size().junctions;
@@ -113,7 +113,7 @@ pub fn draw_chambers<N: Network>(out: &mut Out, dice: &mut Dice, net: N) -> Cham
 
 // Puts a gathering over a network.
 pub fn draw_gathering<N: Network>(out: &mut Out, dice: &mut Dice, net: N) -> Gathering<N>
-    requires { fits net }
+    requires { N.fits net }
     ensures { GatheringFits N.Network.meaning N.Network.fits result }
 {
     let n = net.size().junctions;
@@ -124,8 +124,8 @@ pub fn draw_gathering<N: Network>(out: &mut Out, dice: &mut Dice, net: N) -> Gat
 
 // Calls carry or limit once.
 pub fn draw_call<N: Network>(out: &mut Out, dice: &mut Dice, net: &mut N)
-    requires { fits net.old }
-    ensures { fits net.new }
+    requires { N.fits net.old }
+    ensures { N.fits net.new }
 {
     let carries = dice.below(2) == 0;
     let k = dice.below(net.size().reaches + 1);

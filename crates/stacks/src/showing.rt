@@ -17,8 +17,8 @@ fn word_of_change(change: Change) -> (&'static str, u32) {
 
 // Calls carry or limit.
 pub fn show_change<N: Network>(out: &mut Out, net: &mut N, k: usize, change: Change)
-    requires { fits net.old }
-    ensures { fits net.new }
+    requires { N.fits net.old }
+    ensures { N.fits net.new }
 {
     let (word, x) = word_of_change(change);
     let answer = apply(net, k, change);
@@ -57,14 +57,14 @@ pub fn show_feeder<N: Network>(
 }
 
 pub fn show_size<N: Network>(out: &mut Out, net: &N)
-    requires { fits net.now }
+    requires { N.fits net.now }
 {
     write_size(out, net.size());
 }
 
 // All reaches, in the order of their numbers.
 pub fn show_reaches<N: Network>(out: &mut Out, net: &N)
-    requires { fits net.now }
+    requires { N.fits net.now }
 {
     for k in 0..net.size().reaches {
         match net.reach(k) {
@@ -76,7 +76,7 @@ pub fn show_reaches<N: Network>(out: &mut Out, net: &N)
 
 // The numbers of the reaches that touch a junction.
 fn show_touches<N: Network>(out: &mut Out, net: &N, v: u16)
-    requires { fits net.now }
+    requires { N.fits net.now }
 {
     out.print("touch ");
     out.print(v);
@@ -91,7 +91,7 @@ fn show_touches<N: Network>(out: &mut Out, net: &N, v: u16)
 
 // The whole network: its size, its reaches, and what touches each junction and the number after the last.
 pub fn show_network<N: Network>(out: &mut Out, net: &N)
-    requires { fits net.now }
+    requires { N.fits net.now }
 {
     show_size(out, net);
     show_reaches(out, net);

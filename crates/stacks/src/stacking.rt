@@ -16,7 +16,7 @@ const CALLS: usize = 6;
 
 // Prints what a network is, makes calls, and prints what it then carries and delivers.
 fn show_in_use<N: Network>(out: &mut Out, dice: &mut Dice, net: &mut N)
-    requires { fits net.old }
+    requires { N.fits net.old }
 {
     show_network(out, net);
     for _ in 0..CALLS {
@@ -28,7 +28,7 @@ fn show_in_use<N: Network>(out: &mut Out, dice: &mut Dice, net: &mut N)
 
 // Puts the upper two layers over a network, and uses the whole.
 fn show_upper_layers<N: Network + Drop>(out: &mut Out, dice: &mut Dice, net: N)
-    requires { fits net }
+    requires { N.fits net }
 {
     let net = draw_chambers(out, dice, net);
     let mut net = draw_gathering(out, dice, net);
@@ -37,7 +37,7 @@ fn show_upper_layers<N: Network + Drop>(out: &mut Out, dice: &mut Dice, net: N)
 
 // Puts four layers over a network, and uses the whole.
 fn show_layers<N: Network + Drop>(out: &mut Out, dice: &mut Dice, net: N)
-    requires { fits net }
+    requires { N.fits net }
 {
     let net = draw_chambers(out, dice, net);
     let net = draw_gathering(out, dice, net);

@@ -15,7 +15,7 @@ use table::{Draft, Table};
 
 // Puts chambers at the first 32 junctions, which are as many as a layer may have.
 fn fill_chambers<N: Network>(net: N) -> Chambers<N>
-    requires { fits net }
+    requires { N.fits net }
     ensures { ChambersFits N.Network.meaning N.Network.fits result }
 {
     let mut layer = Chambers::new(net);
@@ -27,7 +27,7 @@ fn fill_chambers<N: Network>(net: N) -> Chambers<N>
 
 // Gathers sixteen sources and sixteen sinks, which are as many as a layer may have.
 fn fill_gathering<N: Network>(net: N) -> Gathering<N>
-    requires { fits net }
+    requires { N.fits net }
     ensures { GatheringFits N.Network.meaning N.Network.fits result }
 {
     let mut layer = Gathering::new(net);
@@ -42,7 +42,7 @@ fn fill_gathering<N: Network>(net: N) -> Gathering<N>
 
 // Tries one chamber, and prints the size.
 fn show_one_chamber<N: Network>(out: &mut Out, net: N) -> Chambers<N>
-    requires { fits net }
+    requires { N.fits net }
     ensures { ChambersFits N.Network.meaning N.Network.fits result }
 {
     let mut layer = Chambers::new(net);
@@ -53,7 +53,7 @@ fn show_one_chamber<N: Network>(out: &mut Out, net: N) -> Chambers<N>
 
 // Tries one source, and prints the size.
 fn show_one_source<N: Network>(out: &mut Out, net: N) -> Gathering<N>
-    requires { fits net }
+    requires { N.fits net }
     ensures { GatheringFits N.Network.meaning N.Network.fits result }
 {
     let mut layer = Gathering::new(net);

@@ -10,20 +10,20 @@ use Rattle.network.proofs.Telling.{told_low}
 use Rattle.calls.proofs.tallying.tally.Goals as goal
 
 -- a sound network has few enough reaches that no sum of what they carry leaves 64 bits
-pub overflow-add-sum : goal.overflow-add-sum
-overflow-add-sum g c =
+pub overflow_add-sum : goal.overflow_add-sum
+overflow_add-sum g c =
     let few = (g.N.Network.sound c.args.net.now c.requires).shaped.listed in
     let size = ap (λ (s : Size). s.reaches) c.size-size.ensures in
     let small = out_of-le c.size-size.result.intake (arc_in c.in-Ok.reach) in
-    omega (arith, ints, c.out-of.ensures)
+    omega (arith, ints, c.out_of.ensures)
 
-pub overflow-sub-sum : goal.overflow-sub-sum
-overflow-sub-sum g c =
+pub overflow_sub-sum : goal.overflow_sub-sum
+overflow_sub-sum g c =
     let few = (g.N.Network.sound c.args.net.now c.requires).shaped.listed in
     let size = ap (λ (s : Size). s.reaches) c.size-size.ensures in
     let small = out_of-le c.size-size.result.intake (arc_in c.in-Ok.reach) in
     let small' = into-le c.size-size.result.intake (arc_in c.in-Ok.reach) in
-    omega (arith, ints, c.out-of.ensures, c.into-junction.ensures)
+    omega (arith, ints, c.out_of.ensures, c.into_junction.ensures)
 
 pub loop-k-preserved : goal.loop-k-preserved
 loop-k-preserved g c =
@@ -34,13 +34,13 @@ loop-k-preserved g c =
     let told = c.in-Ok.ensures in
     let low : k < length was.reaches = told_low was.reaches k reach told in
     let same = ap (λ (s : Size). s.intake) c.size-size.ensures in
-    let out = c.out-of.ensures ∙ ap (λ j. out_of j (arc_in reach)) same ∙ ap (out_of was.intake) told.1 in
-    let back = c.into-junction.ensures ∙ ap (λ j. into j (arc_in reach)) same ∙ ap (into was.intake) told.1 in
+    let out = c.out_of.ensures ∙ ap (λ j. out_of j (arc_in reach)) same ∙ ap (out_of was.intake) told.1 in
+    let back = c.into_junction.ensures ∙ ap (λ j. into j (arc_in reach)) same ∙ ap (into was.intake) told.1 in
     let small = out_of-le c.size-size.result.intake (arc_in reach) in
     let small' = into-le c.size-size.result.intake (arc_in reach) in
     let more = sum_of-more (out_of was.intake) was.reaches k low in
     let more' = sum_of-more (into was.intake) was.reaches k low in
-    (omega (arith, c.out-of.ensures), omega (arith, c.into-junction.ensures), omega (arith, ints))
+    (omega (arith, c.out_of.ensures), omega (arith, c.into_junction.ensures), omega (arith, ints))
 
 pub returns : goal.returns
 returns g c =

@@ -28,48 +28,19 @@ returns-then-self-min c =
       lender = refl;
     }
 
-pub invariant-of-self : goal.invariant-of-self
-invariant-of-self c =
+pub invariant_of-self : goal.invariant_of-self
+invariant_of-self c =
     let d = c.args.self.now in
     let row = laid_row c.args.tail c.args.head c.args.limit in
-    let ends : Joined d.junctions (arc_of_row row) = (omega arith, omega arith, c.if-tail-head.false) in (
-      simp length-set (omega (arith, c.min.ensures)),
-      (
-        omega (arith, c.min.ensures),
-        (
-          d.two,
-          (
-            d.many,
-            (
-              d.inside,
-              (
-                d.outside,
-                (
-                  d.differ,
-                  (
-                    fair_more d.rows.now d.used row (omega (arith, c.min.ensures)) d.junctions d.fair
-                        (ends, omega arith, omega arith),
-                    tt,
-                  ),
-                ),
-              ),
-            ),
-          ),
-        ),
-      ),
-    )
-
-pub returns : goal.returns
-returns c =
-    let d = c.args.self.now in
-    let t = c.args.tail in
-    let h = c.args.head in
-    let q = c.args.limit in
-    let many = arcs_used d.rows.now d.used d.within in
+    let ends : Joined d.junctions (arc_of_row row) = (omega arith, omega arith, c.if-tail-head.false) in
     record {
-      judged = lay_accepted (draft_net d) (places_in d.rows.now) t h q (omega arith) (omega arith) c.if-tail-head.false (omega arith)
-          (omega (arith, many, c.min.ensures));
-      net = ap (with_reaches (draft_net d)) (arcs_more d.rows.now d.used (laid_row t h q) (omega (arith, c.min.ensures)));
-      rows = ap (λ (k : ℕ). set d.rows.now k (laid_row t h q)) (sym many);
-      lender = refl;
+      within = simp length-set (omega (arith, c.min.ensures));
+      few = omega (arith, c.min.ensures);
+      two = d.two;
+      many = d.many;
+      inside = d.inside;
+      outside = d.outside;
+      differ = d.differ;
+      fair = fair_more d.rows.now d.used row (omega (arith, c.min.ensures)) d.junctions d.fair
+          (ends, omega arith, omega arith);
     }

@@ -12,7 +12,7 @@ returns c =
     let f = c.requires in
     let change = c.args.change in
     let k = c.args.k in
-    let called = c.change-in in
+    let called = c.change_in in
     record {
       fit = record {
         within = omega (arith, f.within, called.auto.rows);
