@@ -16,13 +16,13 @@ use Rattle.gathering.proofs.Accepted.{accepted}
 use Rattle.gathering.proofs.Entered.{parted, source_put, sink_put, room_left, entered_fits}
 use Rattle.gathering.proofs.gathering.Gathering.enter.Goals as goal
 
-pub returns-in-err-judge : goal.returns-in-err-judge
-returns-in-err-judge g c =
+pub returns-in_err-judge : goal.returns-in_err-judge
+returns-in_err-judge g c =
     let x = c.args.self.now in
-    let p = err_from_is_err_and c.from-residual.result c.from-residual.ensures.1 in
+    let p = err_from_is_err_and c.from_residual.result c.from_residual.ensures.1 in
     rw (p.1, p.2) (record {
       fit = c.requires;
-      judged = c.in-err-judge.ensures;
+      judged = c.in_err-judge.ensures;
       refused = refl;
       below = refl;
       feeders = refl;
@@ -39,12 +39,12 @@ returns-in-Source g c =
     let stated = c.args.stated in
     let call = c.insert in
     let r = feeder Source net v stated in
-    let ok = accepted c.args.role net (feeders_of x) v stated c.in-ok-judge.ensures in
+    let ok = accepted c.args.role net (feeders_of x) v stated c.in_ok-judge.ensures in
     let room = room_left g.N.Network.meaning g.N.Network.fits x c.requires c.args.role v stated ok in
     let make : ℕ → ℕ → Arc = λ n q. record { tail = n; head = v; limit = q; carried = 0 } in
-    let new : make x.base.junctions c.limit-of-limit.result ≡ r =
-    ap (λ (n : ℕ). make n c.limit-of-limit.result) (base_junctions g.N.Network.meaning g.N.Network.fits x c.requires)
-    ∙ ap (make net.junctions) c.limit-of-limit.ensures in
+    let new : make x.base.junctions c.limit_of-limit.result ≡ r =
+    ap (λ (n : ℕ). make n c.limit_of-limit.result) (base_junctions g.N.Network.meaning g.N.Network.fits x c.requires)
+    ∙ ap (make net.junctions) c.limit_of-limit.ensures in
     let put : own_arcs call.new.self ≡ insert own s r =
     call.ensures.own ∙ put_in own (room_in x.own) s _ call.result room c.requires.within call.ensures.told
     ∙ ap (insert own s) new in
@@ -53,7 +53,7 @@ returns-in-Source g c =
     record {
       fit = entered_fits g.N.Network.meaning g.N.Network.fits x c.requires c.args.role v stated ok call.new.self (s + 1)
           call.ensures.room (omega (arith, ap length put, length-insert own s r c.requires.within, c.requires.within)) more;
-      judged = c.in-ok-judge.ensures;
+      judged = c.in_ok-judge.ensures;
       refused = refl;
       below = refl;
       feeders = more;
@@ -71,12 +71,12 @@ returns-in-Sink g c =
     let call = c.insert-in-Sink in
     let at = c.count-count.result in
     let r = feeder Sink net v stated in
-    let ok = accepted c.args.role net (feeders_of x) v stated c.in-ok-judge.ensures in
+    let ok = accepted c.args.role net (feeders_of x) v stated c.in_ok-judge.ensures in
     let room = room_left g.N.Network.meaning g.N.Network.fits x c.requires c.args.role v stated ok in
     let make : ℕ → ℕ → Arc = λ n q. record { tail = v; head = n + 1; limit = q; carried = 0 } in
-    let new : make x.base.junctions c.limit-of-limit.result ≡ r =
-    ap (λ (n : ℕ). make n c.limit-of-limit.result) (base_junctions g.N.Network.meaning g.N.Network.fits x c.requires)
-    ∙ ap (make net.junctions) c.limit-of-limit.ensures in
+    let new : make x.base.junctions c.limit_of-limit.result ≡ r =
+    ap (λ (n : ℕ). make n c.limit_of-limit.result) (base_junctions g.N.Network.meaning g.N.Network.fits x c.requires)
+    ∙ ap (make net.junctions) c.limit_of-limit.ensures in
     let low : at ≤ length own = omega (arith, c.count-count.ensures) in
     let put : own_arcs call.new.self ≡ insert own (length own) r =
     call.ensures.own ∙ put_in own (room_in x.own) at _ call.result room low call.ensures.told
@@ -86,7 +86,7 @@ returns-in-Sink g c =
     record {
       fit = entered_fits g.N.Network.meaning g.N.Network.fits x c.requires c.args.role v stated ok call.new.self s
           call.ensures.room (omega (arith, ap length put, length-insert own (length own) r (omega arith), c.requires.within)) more;
-      judged = c.in-ok-judge.ensures;
+      judged = c.in_ok-judge.ensures;
       refused = refl;
       below = refl;
       feeders = more;

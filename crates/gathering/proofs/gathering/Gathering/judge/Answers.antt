@@ -35,40 +35,40 @@ module _ {N : Type 0} (meant : N → Net) (x : Gathering N) where
   carries_as = ap (λ (fs : List Arc). carries_any (gathered (meant x.below) fs).reaches)
       (take-append-drop x.sources (own_arcs x.own))
 
-pub overflow-add-self-2 : goal.overflow-add-self-2
-overflow-add-self-2 g c = omega (arith, all_short g.N.Network.meaning g.N.Network.fits c.args.self.now c.requires)
+pub overflow_add-self-2 : goal.overflow_add-self-2
+overflow_add-self-2 g c = omega (arith, all_short g.N.Network.meaning g.N.Network.fits c.args.self.now c.requires)
 
-pub overflow-add-self-3 : goal.overflow-add-self-3
-overflow-add-self-3 g c = omega (arith, all_short g.N.Network.meaning g.N.Network.fits c.args.self.now c.requires)
+pub overflow_add-self-3 : goal.overflow_add-self-3
+overflow_add-self-3 g c = omega (arith, all_short g.N.Network.meaning g.N.Network.fits c.args.self.now c.requires)
 
-pub returns-then-is-crowded : goal.returns-then-is-crowded
-returns-then-is-crowded g c =
+pub returns-then-is_crowded : goal.returns-then-is_crowded
+returns-then-is_crowded g c =
     let x = c.args.self.now in
     let net = g.N.Network.meaning x.below in
     let v = c.args.junction in
-    let new = c.new-then-is-crowded in
+    let new = c.new-then-is_crowded in
     let inside : v < net.junctions = omega (arith, base_junctions g.N.Network.meaning g.N.Network.fits x c.requires) in
     let full = crowded_as g.N.Network.meaning x g.N.Network.fits c.requires c.count.result c.count.ensures
-    ∙ sym c.is-crowded.ensures ∙ c.if-is-crowded.true in
+    ∙ sym c.is_crowded.ensures ∙ c.if-is_crowded.true in
     refused_by (Unit {0}) (gather_checks c.args.role net (feeders_of x) v c.args.stated) StackTooLarge parts.Gathering
     new.result new.ensures
     (checks_crowded c.args.role net (feeders_of x) v c.args.stated inside
-    (sym c.is-too-high.ensures ∙ c.if-is-too-high.false) (omega (arith, c.count-of.ensures)) full)
+    (sym c.is_too_high.ensures ∙ c.if-is_too_high.false) (omega (arith, c.count_of.ensures)) full)
 
-pub returns-then-carries-any : goal.returns-then-carries-any
-returns-then-carries-any g c =
+pub returns-then-carries_any : goal.returns-then-carries_any
+returns-then-carries_any g c =
     let x = c.args.self.now in
     let net = g.N.Network.meaning x.below in
     let v = c.args.junction in
-    let new = c.new-then-carries-any in
+    let new = c.new-then-carries_any in
     let inside : v < net.junctions = omega (arith, base_junctions g.N.Network.meaning g.N.Network.fits x c.requires) in
     let small = crowded_as g.N.Network.meaning x g.N.Network.fits c.requires c.count.result c.count.ensures
-    ∙ sym c.is-crowded.ensures ∙ c.if-is-crowded.false in
-    let wet = carries_as g.N.Network.meaning x ∙ sym c.carries-any.ensures ∙ c.if-carries-any.true in
+    ∙ sym c.is_crowded.ensures ∙ c.if-is_crowded.false in
+    let wet = carries_as g.N.Network.meaning x ∙ sym c.carries_any.ensures ∙ c.if-carries_any.true in
     refused_by (Unit {0}) (gather_checks c.args.role net (feeders_of x) v c.args.stated) TooLate parts.Gathering
     new.result new.ensures
     (checks_late c.args.role net (feeders_of x) v c.args.stated inside
-    (sym c.is-too-high.ensures ∙ c.if-is-too-high.false) (omega (arith, c.count-of.ensures)) small wet)
+    (sym c.is_too_high.ensures ∙ c.if-is_too_high.false) (omega (arith, c.count_of.ensures)) small wet)
 
 pub returns : goal.returns
 returns g c =
@@ -77,7 +77,7 @@ returns g c =
     let v = c.args.junction in
     let inside : v < net.junctions = omega (arith, base_junctions g.N.Network.meaning g.N.Network.fits x c.requires) in
     let small = crowded_as g.N.Network.meaning x g.N.Network.fits c.requires c.count.result c.count.ensures
-    ∙ sym c.is-crowded.ensures ∙ c.if-is-crowded.false in
-    let dry = carries_as g.N.Network.meaning x ∙ sym c.carries-any.ensures ∙ c.if-carries-any.false in
+    ∙ sym c.is_crowded.ensures ∙ c.if-is_crowded.false in
+    let dry = carries_as g.N.Network.meaning x ∙ sym c.carries_any.ensures ∙ c.if-carries_any.false in
     checks_pass c.args.role net (feeders_of x) v c.args.stated inside
-    (sym c.is-too-high.ensures ∙ c.if-is-too-high.false) (omega (arith, c.count-of.ensures)) small dry
+    (sym c.is_too_high.ensures ∙ c.if-is_too_high.false) (omega (arith, c.count_of.ensures)) small dry

@@ -26,11 +26,11 @@ returns g c =
       all_length lift (map lift) (retailed (left_from own)) net.reaches own,
     ) in
     let inside : net.outfall < most_junctions = omega (arith, s.outfall_in, s.few) in
-    let outfall : c.left-from.result ≡ left_from own net.outfall =
-    c.left-from.ensures ∙ ap (λ (z : Size). or_self (get_or x.twins z.outfall None) z.outfall) f.base
+    let outfall : c.left_from.result ≡ left_from own net.outfall =
+    c.left_from.ensures ∙ ap (λ (z : Size). or_self (get_or x.twins z.outfall None) z.outfall) f.base
     ∙ ap (λ (o : Option ℕ). or_self o net.outfall) (f.known net.outfall inside) in
     let intake = ap (λ (z : Size). z.intake) f.base in
-    ap (λ (n : ℕ). make n (x.base.reaches + c.count-count.result) x.base.intake c.left-from.result) junctions
-    ∙ ap (λ (m : ℕ). make (net.junctions + length own) m x.base.intake c.left-from.result) reaches
-    ∙ ap (λ (i : ℕ). make (net.junctions + length own) (length (chambered net own).reaches) i c.left-from.result) intake
+    ap (λ (n : ℕ). make n (x.base.reaches + c.count-count.result) x.base.intake c.left_from.result) junctions
+    ∙ ap (λ (m : ℕ). make (net.junctions + length own) m x.base.intake c.left_from.result) reaches
+    ∙ ap (λ (i : ℕ). make (net.junctions + length own) (length (chambered net own).reaches) i c.left_from.result) intake
     ∙ ap (make (net.junctions + length own) (length (chambered net own).reaches) net.intake) outfall

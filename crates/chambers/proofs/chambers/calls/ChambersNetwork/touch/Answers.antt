@@ -15,8 +15,8 @@ returns-in-Some g c =
     let front = map (leaving_from (left_from own)) (g.N.Network.meaning x.below).reaches in
     first_in_front (Touches c.args.junction) front own c.args.k c.in-Some.i c.in-Some.ensures
 
-pub returns-in-err-e : goal.returns-in-err-e
-returns-in-err-e g c =
+pub returns-in_err-e : goal.returns-in_err-e
+returns-in_err-e g c =
     let x = c.args.self.now in
     let own = own_arcs x.own in
     let rs = (g.N.Network.meaning x.below).reaches in
@@ -25,9 +25,9 @@ returns-in-err-e g c =
     let k = c.args.k in
     let long : length front ≡ x.base.reaches =
     length-map rs (leaving_from (left_from own)) ∙ sym (ap (λ (z : Size). z.reaches) c.requires.base) in
-    let mine = subst (λ (j : ℕ). FirstFrom (Touches v) own j None) c.saturating-sub.ensures c.in-err-e.ensures in
-    subst (Touched v (front ++ own) k) (sym c.from-residual.ensures)
-    (first_nowhere (Touches v) front own k x.base.reaches long c.in-default.ensures mine)
+    let mine = subst (λ (j : ℕ). FirstFrom (Touches v) own j None) c.saturating_sub.ensures c.in_err-e.ensures in
+    subst (Touched v (front ++ own) k) (sym c.from_residual.ensures)
+    (first_nowhere (Touches v) front own k x.base.reaches long c.in_default.ensures mine)
 
 pub returns : goal.returns
 returns g c =
@@ -37,8 +37,8 @@ returns g c =
     let front = map (leaving_from (left_from own)) rs in
     let v = c.args.junction in
     let k = c.args.k in
-    let e = c.in-ok-e.e in
+    let e = c.in_ok-e.e in
     let long : length front ≡ x.base.reaches =
     length-map rs (leaving_from (left_from own)) ∙ sym (ap (λ (z : Size). z.reaches) c.requires.base) in
-    let mine = subst (λ (j : ℕ). FirstFrom (Touches v) own j (Some e)) c.saturating-sub.ensures c.in-ok-e.ensures in
-    first_behind (Touches v) front own k x.base.reaches long c.in-default.ensures e mine
+    let mine = subst (λ (j : ℕ). FirstFrom (Touches v) own j (Some e)) c.saturating_sub.ensures c.in_ok-e.ensures in
+    first_behind (Touches v) front own k x.base.reaches long c.in_default.ensures e mine

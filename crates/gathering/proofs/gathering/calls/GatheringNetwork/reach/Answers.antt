@@ -18,13 +18,13 @@ returns-then-k-self g c =
     let base = base_reaches g.N.Network.meaning g.N.Network.fits x c.requires in
     told_below (g.N.Network.meaning x.below) (own_arcs x.own) c.args.k (omega arith) c.reach.result c.reach.ensures
 
-pub returns-in-default : goal.returns-in-default
-returns-in-default g c =
+pub returns-in_default : goal.returns-in_default
+returns-in_default g c =
     let x = c.args.self.now in
     let reaches = (gathering_net g.N.Network.meaning x).reaches in
     let base = base_reaches g.N.Network.meaning g.N.Network.fits x c.requires in
     let long = gathered_length (g.N.Network.meaning x.below) (own_arcs x.own) in
-    let past = reach_past reaches c.args.k (omega (arith, c.in-default.ensures)) in
+    let past = reach_past reaches c.args.k (omega (arith, c.in_default.ensures)) in
     (refused_by Reach (reach_checks reaches c.args.k) NoReach Network c.new.result c.new.ensures past, tt)
 
 pub unreachable-requires : goal.unreachable-requires
@@ -50,4 +50,4 @@ returns g c =
     let is : length net.reaches + e ≡ c.args.k = omega arith in
     let there = reach_there (gathering_net g.N.Network.meaning x).reaches c.args.k
     (omega (arith, told.0, gathered_length net own)) in
-    (there, c.in-Some-to-reach.ensures ∙ told.1 ∙ sym (feeder_at net own c.args.k e is))
+    (there, c.in-Some-to_reach.ensures ∙ told.1 ∙ sym (feeder_at net own c.args.k e is))

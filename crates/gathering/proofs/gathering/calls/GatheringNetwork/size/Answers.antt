@@ -5,8 +5,8 @@ use Rattle.gathering.proofs.Gathered.{gathered_size, size_of-gathered}
 use Rattle.gathering.proofs.Feeders.{all_short}
 use Rattle.gathering.proofs.gathering.calls.GatheringNetwork.size.Goals as goal
 
-pub overflow-add-result-2 : goal.overflow-add-result-2
-overflow-add-result-2 g c = omega (arith, all_short g.N.Network.meaning g.N.Network.fits c.args.self.now c.requires)
+pub overflow_add-result-2 : goal.overflow_add-result-2
+overflow_add-result-2 g c = omega (arith, all_short g.N.Network.meaning g.N.Network.fits c.args.self.now c.requires)
 
 pub returns : goal.returns
 returns g c =

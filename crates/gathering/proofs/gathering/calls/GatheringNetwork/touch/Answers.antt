@@ -18,21 +18,21 @@ returns-in-Some g c =
     subst (λ (rs : List Arc). Touched v rs k (Some i)) (sym (gathered_reaches net own))
     (first_in_front (Touches v) net.reaches own k i c.in-Some.ensures)
 
-pub returns-in-err-e : goal.returns-in-err-e
-returns-in-err-e g c =
+pub returns-in_err-e : goal.returns-in_err-e
+returns-in_err-e g c =
     let x = c.args.self.now in
     let net = g.N.Network.meaning x.below in
     let own = own_arcs x.own in
     let v = c.args.junction in
     let k = c.args.k in
     let long = base_reaches g.N.Network.meaning g.N.Network.fits x c.requires in
-    let behind = subst (λ (e : ℕ). Touched v own e None) c.saturating-sub.ensures c.in-err-e.ensures in
-    let all = first_nowhere (Touches v) net.reaches own k x.base.reaches (sym long) c.in-default.ensures behind in
-    rw c.from-residual.ensures (subst (λ (rs : List Arc). Touched v rs k None) (sym (gathered_reaches net own)) all)
+    let behind = subst (λ (e : ℕ). Touched v own e None) c.saturating_sub.ensures c.in_err-e.ensures in
+    let all = first_nowhere (Touches v) net.reaches own k x.base.reaches (sym long) c.in_default.ensures behind in
+    rw c.from_residual.ensures (subst (λ (rs : List Arc). Touched v rs k None) (sym (gathered_reaches net own)) all)
 
-pub overflow-add-result : goal.overflow-add-result
-overflow-add-result g c =
-    omega (arith, all_short g.N.Network.meaning g.N.Network.fits c.args.self.now c.requires, c.in-ok-e.ensures.1)
+pub overflow_add-result : goal.overflow_add-result
+overflow_add-result g c =
+    omega (arith, all_short g.N.Network.meaning g.N.Network.fits c.args.self.now c.requires, c.in_ok-e.ensures.1)
 
 pub returns : goal.returns
 returns g c =
@@ -42,8 +42,8 @@ returns g c =
     let v = c.args.junction in
     let k = c.args.k in
     let m = x.base.reaches in
-    let e = c.in-ok-e.e in
+    let e = c.in_ok-e.e in
     let long = base_reaches g.N.Network.meaning g.N.Network.fits x c.requires in
-    let behind = subst (λ (i : ℕ). Touched v own i (Some e)) c.saturating-sub.ensures c.in-ok-e.ensures in
+    let behind = subst (λ (i : ℕ). Touched v own i (Some e)) c.saturating_sub.ensures c.in_ok-e.ensures in
     subst (λ (rs : List Arc). Touched v rs k (Some (m + e))) (sym (gathered_reaches net own))
-    (first_behind (Touches v) net.reaches own k m (sym long) c.in-default.ensures e behind)
+    (first_behind (Touches v) net.reaches own k m (sym long) c.in_default.ensures e behind)
