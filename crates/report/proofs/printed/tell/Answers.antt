@@ -11,5 +11,5 @@ loop-line-preserved g c =
       given.fit,
       λ p. one_more g.W.Write.write_str_gives (left c.args.desk) (left c.loop-line.desk) (line_text c.in-Some.line)
           (left c.next.new.self) c.args.f.now c.loop-line.f c.writeln.new.self
-          given.line (c.loop-line.invariant.1 p) (λ q. c.in-ok-writeln.ensures.shows q (refl {a = true})),
+          given.line (c.loop-line.invariant.1 p) (λ q. c.in_ok-writeln.ensures.writes q (refl {a = true})),
     )
