@@ -1,0 +1,18 @@
+-- A chamber that is entered leaves the lines of its drawing as they were.
+use Rattle.std.proofs.Common.{◌≡◌, ℕ, List, [], ◌∷◌, ◌++◌, None, Option, sym, ap, ◌∙◌}
+use Rattle.refusal.specs.declared.Part.{Part}
+use Rattle.refusal.specs.Checks.{first_of}
+use Rattle.flow.specs.Net.{Arc, Net}
+use Rattle.chambers.specs.Entering.{chamber_checks, chamber_reach}
+use Rattle.drawing.specs.Records.{chamber}
+use Rattle.drawing.specs.Ahead.{Drawn, item}
+use Rattle.entries.specs.Located.{refusable}
+use Rattle.entries.specs.Entered.{chamber_lines}
+
+pub chamber_more : (d rest : Drawn) (p j q : ℕ) (g : Net) (giver : ℕ → Part) (own more : List Arc) →
+    d ≡ item p (chamber j q) rest → first_of (chamber_checks g own j q) ≡ None →
+    more ≡ own ++ (chamber_reach g own j q ∷ []) → chamber_lines rest g giver more ≡ chamber_lines d g giver own
+chamber_more d rest p j q g giver own more told free put =
+    ap (chamber_lines rest g giver) put
+    ∙ sym (ap (λ (o : Option (ℕ × Part)). refusable o p (chamber_lines rest g giver (own ++ (chamber_reach g own j q ∷ [])))) free)
+    ∙ sym (ap (λ (x : Drawn). chamber_lines x g giver own) told)
