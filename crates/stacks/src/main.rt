@@ -29,7 +29,7 @@ const BLANK: Row = Row {
 };
 
 fn main(rt: HostRuntime) -> io::Result<()> {
-    let mut out = Out::new(rt.stdout());
+    let mut out = Out::new(rt.alloc(), rt.stdout())?;
     for number in 0..STACKS {
         show_stack(&mut out, number);
     }

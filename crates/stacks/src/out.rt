@@ -1,3 +1,4 @@
+use std::alloc::Global;
 use std::fmt::Display;
 use std::io;
 use std::io::{BufWriter, Stdout, Write};
@@ -11,11 +12,11 @@ pub struct Out {
 }
 
 impl Out {
-    pub fn new(stdout: Stdout) -> Out {
-        Out {
-            buffer: BufWriter::new(stdout),
+    pub fn new(alloc: Global, stdout: Stdout) -> io::Result<Out> {
+        Ok(Out {
+            buffer: BufWriter::new(alloc, stdout)?,
             written: Ok(()),
-        }
+        })
     }
 
     pub fn print<D: Display + Drop>(&mut self, value: D) {
