@@ -18,8 +18,7 @@ reading-preserved g c =
     let own = own_arcs x.own in
     let told : ahead c.reading.reader ≡ item place (chamber j q) (ahead c.next.new.self) = search rules in
     let free : first_of (chamber_checks net own j q) ≡ None = search rules in
-    let more : own_arcs c.enter.new.self.own ≡ own ++ (chamber_reach net own j q ∷ []) = search rules in
-    (
+    let more : own_arcs c.enter.new.self.own ≡ own ++ (chamber_reach net own j q ∷ []) = search rules in (
       c.enter.ensures.fit,
       c.enter.ensures.below ∙ c.reading.invariant.1,
       chamber_more (ahead c.reading.reader) (ahead c.next.new.self) place j q net (g.N.Network.giver first) own
