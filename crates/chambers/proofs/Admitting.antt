@@ -1,6 +1,6 @@
 -- An entry that no check is against: what is known of it, and what it makes of the chambers and of the network.
 use Rattle.std.proofs.Common.{◌≡◌, ℕ, ◌+◌, ◌<◌, ◌≤◌, Bool, true, false, cond, eqb, ◌≢◌, List, [], ◌∷◌, ◌++◌, map, length, get_or, set, is_some, Some, None, Option, sym, refl, ap, ◌∙◌, subst, ⊎_elim, append_assoc, arith, get_or-set_other, get_or-set_same}
-use Rattle.std.specs.List.{AllByRecursion as All}
+use Rattle.std.specs.List.{AllByRecursion}
 use Rattle.std.proofs.ByRecursion.{All-weaker, All-from_get_or}
 use Rattle.std.proofs.lemmas.List.{length_push, get_or_push, get_or_append_left, map-append}
 use Rattle.std.proofs.lemmas.Bool.{cases_eq, cases_lt, eq-eqb, ne_eqb, cond-true, cond-false}
@@ -81,13 +81,13 @@ each_push P rs x each new e low = ⊎_elim
     (cases_lt e (length rs))
 
 -- two ways to change each reach of a list that agree on each of its reaches
-map_twice : (f h k : Arc → Arc) (rs : List Arc) → All (λ r. f r ≡ h (k r)) rs → map f rs ≡ map h (map k rs)
+map_twice : (f h k : Arc → Arc) (rs : List Arc) → AllByRecursion (λ r. f r ≡ h (k r)) rs → map f rs ≡ map h (map k rs)
 map_twice f h k [] same = refl
 map_twice f h k (r ∷ rs) same =
     ap (λ (x : Arc). x ∷ map f rs) same.0 ∙ ap (λ (xs : List Arc). h (k r) ∷ xs) (map_twice f h k rs same.1)
 
 -- a way that changes none of them
-map_still : (f : Arc → Arc) (rs : List Arc) → All (λ r. f r ≡ r) rs → map f rs ≡ rs
+map_still : (f : Arc → Arc) (rs : List Arc) → AllByRecursion (λ r. f r ≡ r) rs → map f rs ≡ rs
 map_still f [] same = refl
 map_still f (r ∷ rs) same = ap (λ (x : Arc). x ∷ map f rs) same.0 ∙ ap (λ (xs : List Arc). r ∷ xs) (map_still f rs same.1)
 
@@ -148,11 +148,11 @@ module _ (g : Net) (own : List Arc) (v q : ℕ) (a : Admitted g own v q) (f : Ch
     twin = n + length own
 
     -- a reach of the network below leaves v's twin in place of v, and a chamber's reach leaves what it left
-    below_again : All (λ r. leaving_from (left_from more) r ≡ leaving_from (instead v twin) (leaving_from (left_from own) r)) g.reaches
+    below_again : AllByRecursion (λ r. leaving_from (left_from more) r ≡ leaving_from (instead v twin) (leaving_from (left_from own) r)) g.reaches
     below_again = All-weaker (FairArc n) (λ r. leaving_from (left_from more) r ≡ leaving_from (instead v twin) (leaving_from (left_from own) r))
         (λ r fair. ap (λ (t : ℕ). leaving_from (λ _. t) r) (left_more r.tail fair.0.0)) g.reaches (fair_all g s)
 
-    own_still : All (λ r. leaving_from (instead v twin) r ≡ r) own
+    own_still : AllByRecursion (λ r. leaving_from (instead v twin) r ≡ r) own
     own_still = All-from_get_or (λ r. leaving_from (instead v twin) r ≡ r) own no_arc (λ e low.
         let r = arc_at own e in
         let away : r.tail ≢ v = λ is.

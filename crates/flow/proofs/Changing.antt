@@ -1,7 +1,7 @@
 -- What changes of a network keep, and the other laws of specs/Laws.antt.
 use Rattle.std.proofs.Common.{◌≡◌, ℕ, ◌+◌, ◌*◌, ◌/◌, ◌<◌, ◌≤◌, List, map, length, get_or, set, pos, ◌-ℤ◌, sym, ap, ◌∙◌, subst, ⊎_elim, arith, length-set, get_or-set_other, get_or-set_same}
 use lib.ListN.{length-map}
-use Rattle.std.specs.List.{AllByRecursion as All}
+use Rattle.std.specs.List.{AllByRecursion}
 use Rattle.std.proofs.ByRecursion.{All-set, All-weaker, All-map, All-get_or, All-from_get_or}
 use Rattle.std.proofs.lemmas.List.{get_or-map, get_or_past, set_past}
 use Rattle.std.proofs.lemmas.Bool.{cases_lt}
@@ -15,7 +15,7 @@ use Rattle.flow.specs.Laws.{KeepsSound, OneChanged, DrainedIsDry, TwoSteps, Amou
 use Rattle.flow.proofs.Sums.{sum_of-le, out_of-le, into-le, sum_of-none}
 
 -- what holds of every reach and of the reach past the end holds of reach k, wherever k is
-pub arc_has : (P : Arc → Type 0) (rs : List Arc) (k : ℕ) → All P rs → P no_arc → P (arc_at rs k)
+pub arc_has : (P : Arc → Type 0) (rs : List Arc) (k : ℕ) → AllByRecursion P rs → P no_arc → P (arc_at rs k)
 arc_has P rs k h past =
     ⊎_elim (λ (low : k < length rs). All-get_or P rs k no_arc low h)
     (λ (high : length rs ≤ k). subst_past high) (cases_lt k (length rs))
@@ -24,8 +24,8 @@ arc_has P rs k h past =
     subst_past high = rw (get_or_past rs k no_arc high) past
 
 -- a shape with other reaches: as many of them, between junctions, with limits that a reach may have
-reshaped : (g : Net) (rs : List Arc) → Shaped g → length rs ≡ length g.reaches → All (Joined g.junctions) rs →
-    All (λ r. r.limit ≤ highest_limit) rs → Shaped (with_reaches g rs)
+reshaped : (g : Net) (rs : List Arc) → Shaped g → length rs ≡ length g.reaches → AllByRecursion (Joined g.junctions) rs →
+    AllByRecursion (λ r. r.limit ≤ highest_limit) rs → Shaped (with_reaches g rs)
 reshaped g rs s same joined limits = record {
   two = s.two;
   few = s.few;
@@ -125,7 +125,7 @@ two_steps = record { forth = forth; back = back; fill = fill }
 
 bounded : (f : Arc → ℕ) (g : Net) → Sound g → ((r : Arc) → f r ≤ r.carried) → sum_of f g.reaches ≤ highest_limit * most_reaches
 bounded f g s small =
-    let each : All (λ r. f r ≤ highest_limit) g.reaches = All-from_get_or (λ r. f r ≤ highest_limit) g.reaches no_arc
+    let each : AllByRecursion (λ r. f r ≤ highest_limit) g.reaches = All-from_get_or (λ r. f r ≤ highest_limit) g.reaches no_arc
     (λ k low. omega (arith, small (arc_at g.reaches k), (fair_at g s k low).1, (fair_at g s k low).2)) in
     omega (arith, sum_of-le f highest_limit g.reaches each, s.shaped.listed)
 

@@ -1,6 +1,6 @@
 -- The feeders that a gathering keeps, of which the first s are the sources': what is known of each, and that it stays known.
 use Rattle.std.proofs.Common.{◌≡◌, ℕ, ◌+◌, ◌-◌, ◌<◌, ◌≤◌, List, length, take, drop, None, Result, sym, ap, ◌∙◌, subst, ⊎_elim, arith, length-drop, length-take}
-use Rattle.std.specs.List.{AllByRecursion as All}
+use Rattle.std.specs.List.{AllByRecursion}
 use Rattle.std.proofs.ByRecursion.{All-get_or, All-from_get_or}
 use Rattle.std.proofs.lemmas.List.{get_or-take, get_or-drop}
 use Rattle.std.proofs.lemmas.Bool.{cases_lt}
@@ -30,7 +30,7 @@ module _ (s : ℕ) (own : List Arc) where
 
   module _ (n : ℕ) where
     -- what is known of all feeders is known of each
-    each_feeder : All (SourceArc n) (take s own) → All (SinkArc n) (drop s own) → (e : ℕ) → e < length own → FeederArc n s e (arc_at own e)
+    each_feeder : AllByRecursion (SourceArc n) (take s own) → AllByRecursion (SinkArc n) (drop s own) → (e : ℕ) → e < length own → FeederArc n s e (arc_at own e)
     each_feeder from to e low = (
       λ less. subst (SourceArc n) (get_or-take s own e no_arc less)
           (All-get_or (SourceArc n) (take s own) e no_arc (omega (arith, length-take s own)) from),
@@ -40,13 +40,13 @@ module _ (s : ℕ) (own : List Arc) where
     )
 
     -- what is known of each is known of all the sources'
-    all_sources : ((e : ℕ) → e < length own → FeederArc n s e (arc_at own e)) → All (SourceArc n) (take s own)
+    all_sources : ((e : ℕ) → e < length own → FeederArc n s e (arc_at own e)) → AllByRecursion (SourceArc n) (take s own)
     all_sources each = All-from_get_or (SourceArc n) (take s own) no_arc (λ e low.
         let less : e < s = omega (arith, length-take s own) in
         subst (SourceArc n) (sym (get_or-take s own e no_arc less)) ((each e (omega (arith, length-take s own))).0 less))
 
     -- and of all the sinks'
-    all_sinks : ((e : ℕ) → e < length own → FeederArc n s e (arc_at own e)) → All (SinkArc n) (drop s own)
+    all_sinks : ((e : ℕ) → e < length own → FeederArc n s e (arc_at own e)) → AllByRecursion (SinkArc n) (drop s own)
     all_sinks each = All-from_get_or (SinkArc n) (drop s own) no_arc (λ e low.
         subst (SinkArc n) (sym (get_or-drop s own e no_arc)) ((each (s + e) (omega (arith, length-drop s own))).1 (omega arith)))
 

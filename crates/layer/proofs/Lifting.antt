@@ -2,7 +2,7 @@
 -- of either kind comes to on the whole list is proved here once, for every layer.
 use Rattle.std.proofs.Common.{◌≡◌, ℕ, ◌+◌, ◌-◌, ◌<◌, ◌≤◌, Bool, cond, ltb, leb, List, ◌++◌, map, length, set, Ok, Err, Option, Result, sym, refl, ap, ◌∙◌, subst, ⊎_elim, arith, length-append, length-set}
 use lib.ListN.{length-map}
-use Rattle.std.specs.List.{AllByRecursion as All}
+use Rattle.std.specs.List.{AllByRecursion}
 use Rattle.std.proofs.ByRecursion.{All-from_get_or, All-get_or, All-append}
 use Rattle.std.proofs.lemmas.List.{get_or-map, map-set, get_or_append_left, get_or-append-add, set-append_left, set-append_right}
 use Rattle.std.proofs.lemmas.Bool.{cases_lt, cond-true, cond-false, lt-ltb, le-ltb, le-leb, lt-leb}
@@ -72,7 +72,7 @@ module _ (f : Arc → Arc) (lift : List Arc → List Arc) (l : Lifts f lift) (rs
       ap (arc_at all) place ∙ get_or-append-add (lift rs) own e no_arc
 
   -- what holds of each reach, lifted or own
-  pub all_fair : (n m : ℕ) → ((r : Arc) → FairArc n r → FairArc m (f r)) → All (FairArc n) rs → All (FairArc m) own → All (FairArc m) all
+  pub all_fair : (n m : ℕ) → ((r : Arc) → FairArc n r → FairArc m (f r)) → AllByRecursion (FairArc n) rs → AllByRecursion (FairArc m) own → AllByRecursion (FairArc m) all
   all_fair n m keeps below mine = All-append (FairArc m) (lift rs) own
       (All-from_get_or (FairArc m) (lift rs) no_arc (λ k low.
       let less : k < length rs = omega (arith, l.long rs) in

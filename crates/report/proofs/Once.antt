@@ -1,6 +1,6 @@
 -- Every report tells the network at most once, and first.
 use Rattle.std.proofs.Common.{◌≡◌, ℕ, true, false, List, [], ◌∷◌, length, Some, None, Option, refl, inl, inr}
-use Rattle.std.specs.List.{AllByRecursion as All}
+use Rattle.std.specs.List.{AllByRecursion}
 use Rattle.refusal.specs.declared.Part.{Part}
 use Rattle.refusal.specs.declared.Part.TheVariants.{Network}
 use Rattle.refusal.specs.Checks.{first_of}
@@ -27,7 +27,7 @@ answered_not (command.Limit k q) p giver g = limited_not (first_of (change_check
 answered_not command.Drain p giver g = refl
 answered_not command.Tally p giver g = refl
 
-commands_not : (a : Asked) (giver : ℕ → Part) (g : Net) → All (λ l. is_network l ≡ false) (command_lines a giver g)
+commands_not : (a : Asked) (giver : ℕ → Part) (g : Net) → AllByRecursion (λ l. is_network l ≡ false) (command_lines a giver g)
 commands_not (ask c p rest) giver g = (answered_not c p giver g, commands_not rest giver (answered c p giver g).1)
 commands_not done giver g = tt
 commands_not (turned e) giver g = (refl, tt)

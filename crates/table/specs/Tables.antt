@@ -1,7 +1,7 @@
 -- What a table means as a network, and what is known of it.
 use Rattle.std.specs.Prelude.{ℕ, ◌<◌, ◌≤◌, ◌≢◌, length}
 use Rattle.std.proofs.Common.{sym, subst, arith}
-use Rattle.std.specs.List.{AllByRecursion as All}
+use Rattle.std.specs.List.{AllByRecursion}
 use Rattle.std.proofs.ByRecursion.{All-weaker, All-from_get_or}
 use Rattle.refusal.specs.declared.Part.{Part}
 use Rattle.refusal.specs.declared.Part.TheVariants.{Network}
@@ -27,7 +27,7 @@ pub record TableFits (t : Table) : Type 0 where
   pub fair : FairRows t.rows.now t.used t.junctions
 
 -- then it is a sound network
-fair_arcs : (t : Table) → TableFits t → All (FairArc t.junctions) (table_net t).reaches
+fair_arcs : (t : Table) → TableFits t → AllByRecursion (FairArc t.junctions) (table_net t).reaches
 fair_arcs t f = All-from_get_or (FairArc t.junctions) (table_net t).reaches no_arc (λ k low.
     let less : k < t.used = omega (arith, arcs_length t.rows.now t.used) in
     subst (FairArc t.junctions) (sym (arcs_at t.rows.now t.used k low)) (f.fair k less))
