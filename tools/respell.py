@@ -6,7 +6,7 @@
 It is run once, at the top of the repository or on the copy of it in FOLDER, right after the spelling of the language
 itself was brought up to date. It reads the table below, and nothing else decides. A name of the table is replaced where
 it stands as a whole word in a file of specs/ or proofs/, in a .rt file, or in an edit; never inside a string.
-Functions of the code keep their names: none of the names below is one of code.
+Functions of the code keep their names: none of the names on the left is one of code.
 """
 
 import re

@@ -1,5 +1,5 @@
 -- No command is passed over in silence, and none is answered twice.
-use Rattle.std.proofs.Common.{◌≡◌, ℕ, ◌+◌, length, refl, arith}
+use Rattle.std.proofs.Common.{◌≡◌, ℕ, length, refl, arith}
 use Rattle.refusal.specs.declared.Part.{Part}
 use Rattle.flow.specs.Net.{Net}
 use Rattle.desk.specs.Commands.{Asked, ask, done, turned}

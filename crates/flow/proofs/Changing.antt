@@ -1,5 +1,5 @@
 -- What changes of a network keep, and the other laws of specs/Laws.antt.
-use Rattle.std.proofs.Common.{◌≡◌, ℕ, ◌+◌, ◌*◌, ◌/◌, ◌<◌, ◌≤◌, List, map, length, get_or, set, pos, ◌-ℤ◌, sym, ap, ◌∙◌, subst, ⊎_elim, arith, length-set, get_or-set_other, get_or-set_same}
+use Rattle.std.proofs.Common.{◌≡◌, ℕ, ◌+◌, ◌*◌, ◌/◌, ◌<◌, ◌≤◌, List, map, length, set, pos, ◌-ℤ◌, sym, ap, ◌∙◌, subst, ⊎_elim, arith, length-set, get_or-set_other, get_or-set_same}
 use lib.ListN.{length-map}
 use Rattle.std.specs.List.{AllByRecursion}
 use Rattle.std.proofs.ByRecursion.{All-set, All-weaker, All-map, All-get_or, All-from_get_or}
@@ -7,10 +7,10 @@ use Rattle.std.proofs.lemmas.List.{get_or-map, get_or_past, set_past}
 use Rattle.std.proofs.lemmas.Bool.{cases_lt}
 use Rattle.std.proofs.lemmas.Bool.Decides.{nat_tests}
 use Rattle.flow.specs.Bounds.{most_reaches, highest_limit}
-use Rattle.flow.specs.Net.{Arc, Net, no_arc, arc_at, Joined, Shaped, Within, Sound}
+use Rattle.flow.specs.Net.{Arc, Net, no_arc, arc_at, Joined, Shaped, Sound}
 use Rattle.flow.specs.Steps.{begins, finishes, headroom}
-use Rattle.flow.specs.Flows.{sum_of, out_of, into, leaving, entering, delivered}
-use Rattle.flow.specs.Changes.{carrying, limiting, with_reaches, reach_changed, recarried, relimited, drained}
+use Rattle.flow.specs.Flows.{sum_of, out_of, into, leaving, entering}
+use Rattle.flow.specs.Changes.{carrying, limiting, with_reaches, reach_changed, drained}
 use Rattle.flow.specs.Laws.{KeepsSound, OneChanged, DrainedIsDry, TwoSteps, AmountsBounded}
 use Rattle.flow.proofs.Sums.{sum_of-le, out_of-le, into-le, sum_of-none}
 

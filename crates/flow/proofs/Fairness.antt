@@ -1,9 +1,9 @@
 -- A network is sound where its size keeps to the bounds and each of its reaches is fair.
-use Rattle.std.proofs.Common.{ℕ, ◌<◌, ◌≤◌, ◌≢◌, List, length}
+use Rattle.std.proofs.Common.{ℕ, ◌<◌, ◌≤◌, ◌≢◌, length}
 use Rattle.std.specs.List.{AllByRecursion}
 use Rattle.std.proofs.ByRecursion.{All-weaker, All-get_or, All-from_get_or}
 use Rattle.flow.specs.Bounds.{most_junctions, most_reaches, highest_limit}
-use Rattle.flow.specs.Net.{Arc, Net, no_arc, arc_at, Joined, FairArc, Sound}
+use Rattle.flow.specs.Net.{Net, no_arc, arc_at, Joined, FairArc, Sound}
 
 pub fair_at : (g : Net) → Sound g → (k : ℕ) → k < length g.reaches → FairArc g.junctions (arc_at g.reaches k)
 fair_at g s k low = (

@@ -4,7 +4,7 @@ use Rattle.flow.specs.Bounds.{most_reaches, highest_limit}
 use Rattle.flow.specs.Net.{Arc, Net, Sound, arc_at}
 use Rattle.flow.specs.Steps.{begins, finishes, headroom}
 use Rattle.flow.specs.Flows.{leaving, entering, delivered}
-use Rattle.flow.specs.Changes.{carrying, limiting, reach_changed, recarried, relimited, drained}
+use Rattle.flow.specs.Changes.{carrying, reach_changed, recarried, relimited, drained}
 
 -- a network stays sound when a reach is set to carry no more than its limit, when a limit is set to no less than is
 -- carried and no more than a reach may have, and when all is drained

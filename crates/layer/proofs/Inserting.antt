@@ -4,7 +4,7 @@ use Rattle.std.specs.List.{insert}
 use Rattle.std.proofs.lemmas.List.Edits.{length-insert, get_or-insert_below, get_or-insert_at, get_or-insert_above}
 use Rattle.std.proofs.lemmas.List.{ext_get_or, take_all, drop_all}
 use Rattle.std.proofs.lemmas.Bool.{cases_order, lt-ltb, le-leb, and_from}
-use Rattle.flow.specs.Net.{Arc, no_arc, arc_at}
+use Rattle.flow.specs.Net.{Arc, no_arc}
 use Rattle.network.specs.declared.row.Row.{Row}
 use Rattle.network.specs.Rows.{no_row, arc_of_row, arcs_of}
 use Rattle.network.proofs.Rowing.{arcs_length, arcs_at}

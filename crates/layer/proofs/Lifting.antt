@@ -1,20 +1,19 @@
 -- The reaches of a layer: those of the network below, each lifted by f, and then the layer's own. What a call on a reach
 -- of either kind comes to on the whole list is proved here once, for every layer.
-use Rattle.std.proofs.Common.{◌≡◌, ℕ, ◌+◌, ◌-◌, ◌<◌, ◌≤◌, Bool, cond, ltb, leb, List, ◌++◌, map, length, set, Ok, Err, Option, Result, sym, refl, ap, ◌∙◌, subst, ⊎_elim, arith, length-append, length-set}
+use Rattle.std.proofs.Common.{◌≡◌, ℕ, ◌+◌, ◌-◌, ◌<◌, ◌≤◌, cond, ltb, List, ◌++◌, map, length, set, Ok, Err, Result, sym, refl, ap, ◌∙◌, subst, ⊎_elim, arith, length-append}
 use lib.ListN.{length-map}
 use Rattle.std.specs.List.{AllByRecursion}
 use Rattle.std.proofs.ByRecursion.{All-from_get_or, All-get_or, All-append}
 use Rattle.std.proofs.lemmas.List.{get_or-map, map-set, get_or_append_left, get_or-append-add, set-append_left, set-append_right}
-use Rattle.std.proofs.lemmas.Bool.{cases_lt, cond-true, cond-false, lt-ltb, le-ltb, le-leb, lt-leb}
+use Rattle.std.proofs.lemmas.Bool.{cases_lt, cond-true, cond-false, lt-ltb, le-ltb}
 use Rattle.refusal.specs.declared.Part.{Part}
-use Rattle.refusal.specs.declared.Part.TheVariants.{Network}
 use Rattle.refusal.specs.declared.Refusal.{Refusal}
-use Rattle.refusal.specs.Checks.{first_of, afterwards}
+use Rattle.refusal.specs.Checks.{first_of}
 use Rattle.refusal.proofs.Checking.{judged_as}
 use Rattle.flow.specs.Net.{Arc, Net, no_arc, arc_at, FairArc}
 use Rattle.network.specs.declared.change.Change.{Change}
 use Rattle.network.specs.declared.change.Change.TheVariants.{Carry, Limit}
-use Rattle.network.specs.Changing.{changed, own_checks, change_checks, ChangedIn, Changed}
+use Rattle.network.specs.Changing.{changed, own_checks, change_checks, ChangedIn}
 use Rattle.network.proofs.Setting.{change_past, change_there}
 use Rattle.layer.specs.Layering.{layer_giver, leaving_from}
 

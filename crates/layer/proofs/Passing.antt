@@ -1,6 +1,5 @@
 -- What passes a junction with a chamber, and what sources deliver.
-use Rattle.std.proofs.Common.{◌≡◌, ℕ, ◌+◌, ◌<◌, ◌≤◌, eqb, ◌≢◌, List, [], ◌∷◌, ◌++◌, map, length, pos, ◌-ℤ◌, Some, Option, sym, refl, ap, ◌∙◌, subst, ⊎_elim, arith}
-use Rattle.std.specs.List.{AllByRecursion}
+use Rattle.std.proofs.Common.{◌≡◌, ℕ, ◌<◌, eqb, ◌≢◌, List, [], ◌∷◌, ◌++◌, map, length, pos, ◌-ℤ◌, Option, sym, refl, ap, ◌∙◌, ⊎_elim, arith}
 use Rattle.std.proofs.ByRecursion.{All-weaker, All-map}
 use Rattle.std.proofs.lemmas.Int.{ints}
 use Rattle.std.proofs.lemmas.Bool.{cond-true, cond-false, eq-eqb, ne_eqb}
@@ -10,7 +9,7 @@ use Rattle.flow.proofs.Fairness.{fair_all}
 use Rattle.flow.proofs.Sums.{sum_of-append, sum_of-zero, sum_of-one, sum_of-same}
 use Rattle.layer.specs.Layering.{leaving_from}
 use Rattle.layer.specs.Chambered.{twin_of, or_self, left_from, chambered, Chambering}
-use Rattle.layer.specs.Gathered.{gathered, SourceArc, SinkArc, FeedersFit}
+use Rattle.layer.specs.Gathered.{gathered, SourceArc, SinkArc}
 use Rattle.layer.specs.Laws.{ChamberPasses, SourcesDeliver}
 use Rattle.layer.proofs.Twins.{left_from_is}
 

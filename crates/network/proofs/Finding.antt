@@ -1,9 +1,9 @@
 -- Touch: one more reach that does not touch; and the laws of its answer.
-use Rattle.std.proofs.Common.{◌≡◌, ℕ, ◌+◌, ◌<◌, ◌≤◌, List, length, Some, None, Option, refl, ap, subst, ⊎_elim, arith}
+use Rattle.std.proofs.Common.{◌≡◌, ℕ, ◌+◌, ◌≤◌, List, Some, None, Option, refl, ap, subst, ⊎_elim, arith}
 use Rattle.std.proofs.lemmas.Bool.{cases_lt, cases_order}
 use Rattle.std.proofs.ByRecursion.{All-get_or}
 use Rattle.flow.specs.Net.{Arc, Net, no_arc, arc_at, Joined, Sound}
-use Rattle.network.specs.Touching.{Touches, NoneFrom, FirstFrom, Touched}
+use Rattle.network.specs.Touching.{NoneFrom, Touched}
 use Rattle.network.specs.Laws.{TouchLaws}
 
 -- a loop's step

@@ -1,11 +1,11 @@
 -- Carry and limit: what the outcome of a change is, and that it keeps a network sound.
-use Rattle.std.proofs.Common.{◌≡◌, ℕ, ◌<◌, ◌≤◌, true, false, ltb, leb, ◌≢◌, List, [], ◌∷◌, length, set, Some, None, Ok, Err, Result, sym, refl, ap, ◌∙◌, subst, ⊎_elim, arith, length-set, get_or-set_other, get_or-set_same}
+use Rattle.std.proofs.Common.{◌≡◌, ℕ, ◌<◌, ◌≤◌, leb, ◌≢◌, List, length, set, Some, None, Ok, Err, Result, sym, ap, ◌∙◌, subst, ⊎_elim, arith, length-set, get_or-set_other, get_or-set_same}
 use Rattle.std.proofs.lemmas.Bool.{cases_eq, cases_lt, le-leb, lt-leb}
 use Rattle.std.proofs.lemmas.Bool.Decides.{nat_tests}
 use Rattle.refusal.specs.declared.Refusal.{Refusal}
 use Rattle.refusal.specs.declared.Part.{Part}
 use Rattle.refusal.specs.declared.Part.TheVariants.{Network}
-use Rattle.refusal.specs.Checks.{check, first_of, afterwards}
+use Rattle.refusal.specs.Checks.{first_of, afterwards}
 use Rattle.refusal.proofs.Checking.{caught, passed, one_answer}
 use Rattle.flow.specs.Bounds.{highest_limit, highest_setting}
 use Rattle.flow.specs.Net.{Arc, Net, no_arc, arc_at, Sound}

@@ -6,7 +6,7 @@ use Rattle.refusal.specs.declared.Refusal.{Refusal}
 use Rattle.refusal.specs.Numbers.{number_of}
 
 -- one check of a call: whether it applies, the number that the call then refuses with, and the part that says so.
--- (Tests of numbers read: leb a b, a is at most b; ltb a b, a is below b; eqb a b, a is b.)
+-- (Tests of numbers read: nat_le a b, a is at most b; nat_lt a b, a is below b; a == b, a is b.)
 pub data Check : Type 0 where
   check : Bool → ℕ → Part → Check
 

@@ -1,5 +1,5 @@
 -- Every report tells the network at most once, and first.
-use Rattle.std.proofs.Common.{◌≡◌, ℕ, true, false, List, [], ◌∷◌, length, Some, None, Option, refl, inl, inr}
+use Rattle.std.proofs.Common.{◌≡◌, ℕ, false, List, [], length, Some, None, Option, refl, inl, inr}
 use Rattle.std.specs.List.{AllByRecursion}
 use Rattle.refusal.specs.declared.Part.{Part}
 use Rattle.refusal.specs.declared.Part.TheVariants.{Network}

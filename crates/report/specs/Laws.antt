@@ -1,5 +1,5 @@
 -- A law about every report, in the words of its reader.
-use Rattle.std.specs.Prelude.{◌≡◌, ℕ, ◌+◌, Bool, true, false, cond, ◌⊎◌, List, [], ◌∷◌, length, codes, ◌==◌}
+use Rattle.std.specs.Prelude.{◌≡◌, ℕ, Bool, true, false, cond, ◌⊎◌, List, [], ◌∷◌, codes, ◌==◌}
 use Rattle.std.specs.List.{AllByRecursion}
 use Rattle.desk.specs.Lines.{Lines, network_line}
 

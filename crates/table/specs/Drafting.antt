@@ -1,5 +1,5 @@
 -- What the calls of a draft do and when they refuse.
-use Rattle.std.specs.Prelude.{ℕ, ◌+◌, ◌||◌, List, [], ◌∷◌, ◌++◌, length, ◌==◌, nat_le, nat_lt}
+use Rattle.std.specs.Prelude.{ℕ, ◌||◌, List, [], ◌∷◌, ◌++◌, length, ◌==◌, nat_le, nat_lt}
 use Rattle.refusal.specs.declared.Part.TheVariants as parts
 use Rattle.refusal.specs.Checks.{Check, check}
 use Rattle.flow.specs.Bounds.{highest_setting}

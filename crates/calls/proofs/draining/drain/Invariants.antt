@@ -1,4 +1,4 @@
-use Rattle.std.proofs.Common.{◌≡◌, ℕ, ◌≤◌, length}
+use Rattle.std.proofs.Common.{◌≡◌, ℕ}
 use Rattle.calls.proofs.Drying.{dried_to}
 use Rattle.calls.proofs.draining.drain.Given as goal
 

@@ -1,4 +1,4 @@
-use Rattle.std.proofs.Common.{◌≡◌, List, [], ◌∷◌, ◌++◌, ℕ, None, rules, sym, ap, ◌∙◌}
+use Rattle.std.proofs.Common.{◌≡◌, [], ◌∷◌, ◌++◌, None, rules, ◌∙◌}
 use Rattle.refusal.specs.Checks.{first_of}
 use Rattle.drawing.specs.Records.{chamber}
 use Rattle.drawing.specs.Ahead.{ahead, item}

@@ -1,12 +1,10 @@
 use Rattle.std.proofs.Common.{◌<◌, length, get_or, set, sym, refl, ap, ◌∙◌, arith}
 use Rattle.std.proofs.lemmas.Result.{err_from_is_err_and}
 use Rattle.refusal.specs.declared.Fault.TheVariants.{NoReach}
-use Rattle.refusal.specs.declared.Part.{Part}
 use Rattle.refusal.specs.declared.Part.TheVariants.{Network}
 use Rattle.refusal.specs.Checks.{first_of}
 use Rattle.refusal.proofs.Checking.{refused_by}
 use Rattle.flow.specs.Net.{Arc}
-use Rattle.network.specs.declared.row.Row.{Row}
 use Rattle.network.specs.Rows.{no_row, arc_of_row, arcs_of}
 use Rattle.network.specs.Changing.{changed, own_checks, change_checks}
 use Rattle.network.proofs.Rowing.{arcs_length, arcs_at, arcs_set, arc_changed}

@@ -1,7 +1,6 @@
-use Rattle.std.proofs.Common.{◌≡◌, ℕ, List, sym, ap, ◌∙◌, rules}
+use Rattle.std.proofs.Common.{List, sym, ap, ◌∙◌, rules}
 use Rattle.std.proofs.lemmas.Result.{err_from_is_err_and}
 use Rattle.refusal.specs.declared.Part.TheVariants.{Network}
-use Rattle.flow.specs.Net.{Net}
 use Rattle.network.specs.declared.row.Row.{Row}
 use Rattle.table.specs.Laid.{places_in}
 use Rattle.table.specs.Drafting.{draft_net, fresh}

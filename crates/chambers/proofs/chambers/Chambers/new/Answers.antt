@@ -1,4 +1,4 @@
-use Rattle.std.proofs.Common.{◌≡◌, ℕ, List, length, None, Option, sym, refl, ap, ◌∙◌, subst}
+use Rattle.std.proofs.Common.{ℕ, List, length, None, Option, sym, refl, ap, ◌∙◌, subst}
 use lib.ListN.{get_or-replicate}
 use Rattle.flow.specs.Net.{Arc}
 use Rattle.layer.specs.Chambered.{twin_of, chambered, Chambering}

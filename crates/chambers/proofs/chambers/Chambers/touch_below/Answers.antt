@@ -1,5 +1,5 @@
-use Rattle.std.proofs.Common.{◌≡◌, ℕ, ◌+◌, ◌-◌, ◌<◌, true, false, length, is_some, sym, ap, ◌∙◌, subst, arith}
-use Rattle.flow.specs.Net.{Arc, arc_at}
+use Rattle.std.proofs.Common.{◌≡◌, ℕ, ◌+◌, ◌-◌, ◌<◌, true, false, is_some, sym, ap, ◌∙◌, subst, arith}
+use Rattle.flow.specs.Net.{Arc}
 use Rattle.network.specs.declared.size.Size.{Size}
 use Rattle.network.specs.Touching.{FirstFrom}
 use Rattle.layer.specs.declared.ends.End.TheVariants.{Tail}

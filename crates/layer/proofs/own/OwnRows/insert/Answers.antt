@@ -1,7 +1,6 @@
-use Rattle.std.proofs.Common.{◌≡◌, ◌<◌, ◌≤◌, false, ◌&&◌, ltb, leb, length, refl, ap, arith}
+use Rattle.std.proofs.Common.{◌≡◌, false, ◌&&◌, ltb, leb, length, refl, ap, arith}
 use Rattle.std.proofs.lemmas.Bool.Decides.{nat_tests}
 use Rattle.network.proofs.Rowing.{arcs_length}
-use Rattle.layer.specs.declared.own.OwnRows.{OwnRows}
 use Rattle.layer.specs.Keeping.{own_arcs, room_in}
 use Rattle.layer.proofs.Inserting.{own_length, moving_none, moving_more, arcs_inserted}
 use Rattle.layer.proofs.own.OwnRows.insert.Goals as goal

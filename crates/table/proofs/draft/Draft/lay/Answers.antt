@@ -1,13 +1,12 @@
-use Rattle.std.proofs.Common.{ℕ, set, sym, refl, ap, arith, length-set}
+use Rattle.std.proofs.Common.{refl, arith, length-set}
 use Rattle.refusal.specs.declared.Fault.TheVariants.{NoPlace}
 use Rattle.refusal.specs.declared.Part.TheVariants as parts
 use Rattle.refusal.proofs.Checking.{refused_by}
 use Rattle.flow.specs.Net.{Joined}
-use Rattle.flow.specs.Changes.{with_reaches}
 use Rattle.network.specs.Rows.{arc_of_row}
 use Rattle.table.specs.Laid.{places_in}
 use Rattle.table.specs.Drafting.{draft_net, lay_checks, laid_row}
-use Rattle.table.proofs.Laying.{arcs_used, fair_more, arcs_more, lay_full, lay_accepted}
+use Rattle.table.proofs.Laying.{arcs_used, fair_more, lay_full}
 use Rattle.table.proofs.draft.Draft.lay.Goals as goal
 
 pub returns-then-self-min : goal.returns-then-self-min

@@ -1,4 +1,4 @@
-use Rattle.std.proofs.Common.{◌≡◌, ℕ, ◌++◌, map, length, Some, None, Option, sym, ap, ◌∙◌, subst}
+use Rattle.std.proofs.Common.{◌≡◌, ℕ, ◌++◌, map, length, Some, None, sym, ap, ◌∙◌, subst}
 use lib.ListN.{length-map}
 use Rattle.network.specs.declared.size.Size.{Size}
 use Rattle.network.specs.Touching.{Touches, FirstFrom, Touched}
