@@ -1,4 +1,4 @@
-use Rattle.std.proofs.Common.{true, refl}
+use Rattle.std.proofs.Common.{rules}
 use Rattle.desk.specs.Lines.{line_text}
 use Rattle.desk.specs.Rest.{rest}
 use Rattle.report.proofs.Telling.{one_more}
@@ -10,6 +10,5 @@ loop-line-preserved g c =
     let given = c.in-Some.ensures in (
       given.fit,
       λ p. one_more g.W.Write.write_str_gives (left c.args.desk) (left c.loop-line.desk) (line_text c.in-Some.line)
-          (left c.next.new.self) c.args.f.now c.loop-line.f c.writeln.new.self
-          given.line (c.loop-line.invariant.1 p) (λ q. c.in_ok-writeln.ensures.writes q (refl {a = true})),
+          (left c.next.new.self) c.args.f.now c.loop-line.f _ given.line (c.loop-line.invariant.1 p) (search rules),
     )
