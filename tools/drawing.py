@@ -65,7 +65,7 @@ STAGES = {
 }
 MAY_END = ("after E", "after I or O", "commands")
 
-# Kinds that are read, but that the program has no command for yet.
+# Kinds that are read, but that the program has no entry or command for yet.
 NOT_CARRIED_OUT = "CIOSB"
 
 
@@ -416,7 +416,9 @@ def report(data):
         return f"refused {TOO_LONG} at 0 in reader\n"
 
     draft = Draft()
-    chambers = network = None  # from E on: chambers over the table, and the whole: gathering over the chambers
+    # From E on: chambers over the table, and the whole: gathering over the chambers. No entry reaches them yet, so both
+    # are the table.
+    chambers = network = None
     stage = "start"
     commanded = False  # a command was read whole, so the network line is printed
     lines = []

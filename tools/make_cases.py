@@ -207,7 +207,7 @@ def commands():
 
 
 def not_carried_out():
-    """The kinds that the program reads, but has no command for."""
+    """The kinds that the program reads, but has no entry or command for."""
     for kind in "CIOSB":
         add(f"no-command-{kind}", BUILT + WHOLE[kind] + T(), refused(11, 26, "reader"))
     for kind in "CIOS":
@@ -292,7 +292,7 @@ def random_valid():
 
 
 def random_damaged():
-    """Sound drawings with one fault each: a byte changed, removed or inserted, or the end cut off."""
+    """Drawings with a sound table, and one fault each: a byte changed, removed or inserted, or the end cut off."""
     for index in range(RANDOM_DAMAGED):
         dice = Dice(2000 + index)
         data = b"".join(random_records(dice))

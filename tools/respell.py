@@ -1,5 +1,6 @@
 #!/usr/bin/env python3
-"""Respells the definitions and lemmas of this repository: words in snake case, facts and records in camel case.
+"""Respells the definitions and lemmas of this repository, and of the change that docs/layers-in-the-program.patch keeps:
+words in snake case, facts and records in camel case.
 
     python3 tools/respell.py [FOLDER]
 

@@ -1,4 +1,4 @@
--- Refusals of the records before the commands: each ends the program, and its line is the last.
+-- Refusals of the records before the commands: each is to end a report, and its line is the last.
 use Rattle.std.specs.Prelude.{ℕ, [], ◌∷◌, Some, None, Ok, Err, Option, Result}
 use Rattle.refusal.specs.declared.Part.{Part}
 use Rattle.refusal.specs.declared.Refusal.{Refusal}
