@@ -1,21 +1,22 @@
 -- What changes of a network keep, and the other laws of specs/Laws.antt.
 use Rattle.std.proofs.Common.{◌≡◌, ℕ, ◌+◌, ◌*◌, ◌/◌, ◌<◌, ◌≤◌, List, map, length, set, pos, ◌-ℤ◌, sym, ap, ◌∙◌, subst, ⊎_elim, arith, length-set, get_or-set_other, get_or-set_same}
 use lib.ListN.{length-map}
-use Rattle.std.specs.List.{AllByRecursion}
-use Rattle.std.proofs.ByRecursion.{All-set, All-weaker, All-map, All-get_or, All-from_get_or}
+use Rattle.std.specs.List.{All}
+use Rattle.std.proofs.lemmas.List.Elements.{All-set, All-weaker, All-map, All-get_or, All-from_get_or}
 use Rattle.std.proofs.lemmas.List.{get_or-map, get_or_past, set_past}
 use Rattle.std.proofs.lemmas.Bool.{cases_lt}
 use Rattle.std.proofs.lemmas.Bool.Decides.{nat_tests}
 use Rattle.flow.specs.Bounds.{most_reaches, highest_limit}
-use Rattle.flow.specs.Net.{Arc, Net, no_arc, arc_at, Joined, Shaped, Sound}
+use Rattle.flow.specs.Net.{Arc, Net, no_arc, arc_at, FairArc, Sound}
 use Rattle.flow.specs.Steps.{begins, finishes, headroom}
 use Rattle.flow.specs.Flows.{sum_of, out_of, into, leaving, entering}
 use Rattle.flow.specs.Changes.{carrying, limiting, with_reaches, reach_changed, drained}
 use Rattle.flow.specs.Laws.{KeepsSound, OneChanged, DrainedIsDry, TwoSteps, AmountsBounded}
+use Rattle.flow.proofs.Fairness.{fair_at, fair_all, sound_from_fair}
 use Rattle.flow.proofs.Sums.{sum_of-le, out_of-le, into-le, sum_of-none}
 
 -- what holds of every reach and of the reach past the end holds of reach k, wherever k is
-pub arc_has : (P : Arc → Type 0) (rs : List Arc) (k : ℕ) → AllByRecursion P rs → P no_arc → P (arc_at rs k)
+pub arc_has : (P : Arc → Type 0) (rs : List Arc) (k : ℕ) → All P rs → P no_arc → P (arc_at rs k)
 arc_has P rs k h past =
     ⊎_elim (λ (low : k < length rs). All-get_or P rs k no_arc low h)
     (λ (high : length rs ≤ k). subst_past high) (cases_lt k (length rs))
@@ -23,60 +24,31 @@ arc_has P rs k h past =
     subst_past : length rs ≤ k → P (arc_at rs k)
     subst_past high = rw (get_or_past rs k no_arc high) past
 
--- a shape with other reaches: as many of them, between junctions, with limits that a reach may have
-reshaped : (g : Net) (rs : List Arc) → Shaped g → length rs ≡ length g.reaches → AllByRecursion (Joined g.junctions) rs →
-    AllByRecursion (λ r. r.limit ≤ highest_limit) rs → Shaped (with_reaches g rs)
-reshaped g rs s same joined limits = record {
-  two = s.two;
-  few = s.few;
-  listed = omega (arith, s.listed);
-  intake_in = s.intake_in;
-  outfall_in = s.outfall_in;
-  ends_differ = s.ends_differ;
-  joined = joined;
-  limits = limits;
-}
-
--- a reach among n junctions, with a limit that a reach may have and no more than it carried
-abbrev Fair : ℕ → Arc → Type 0
-Fair n r = Joined n r × (r.limit ≤ highest_limit) × (r.carried ≤ r.limit)
-
-fair_at : (g : Net) → Sound g → (k : ℕ) → k < length g.reaches → Fair g.junctions (arc_at g.reaches k)
-fair_at g s k low = (
-  All-get_or (Joined g.junctions) g.reaches k no_arc low s.shaped.joined,
-  All-get_or (λ r. r.limit ≤ highest_limit) g.reaches k no_arc low s.shaped.limits,
-  All-get_or (λ r. r.carried ≤ r.limit) g.reaches k no_arc low s.within,
-)
+-- other reaches, as many of them and all fair, leave a network sound
+resound : (g : Net) (rs : List Arc) → Sound g → length rs ≡ length g.reaches → All (FairArc g.junctions) rs → Sound (with_reaches g rs)
+resound g rs s same fair =
+    sound_from_fair (with_reaches g rs) s.shaped.two s.shaped.few (omega (arith, s.shaped.listed)) s.shaped.intake_in
+    s.shaped.outfall_in s.shaped.ends_differ fair
 
 -- a change of a reach that keeps it fair keeps the network sound; past the end of the list nothing changes
-pub sound_changed : (f : Arc → Arc) (k : ℕ) (g : Net) → Sound g →
-    (Fair g.junctions (arc_at g.reaches k) → Fair g.junctions (f (arc_at g.reaches k))) → Sound (reach_changed f k g)
+sound_changed : (f : Arc → Arc) (k : ℕ) (g : Net) → Sound g →
+    (FairArc g.junctions (arc_at g.reaches k) → FairArc g.junctions (f (arc_at g.reaches k))) → Sound (reach_changed f k g)
 sound_changed f k g s keeps = ⊎_elim inside past (cases_lt k (length g.reaches))
   where
     inside : k < length g.reaches → Sound (reach_changed f k g)
-    inside low =
-        let fair = keeps (fair_at g s k low) in
-        record {
-          shaped = reshaped g (set g.reaches k (f (arc_at g.reaches k))) s.shaped (length-set g.reaches k _)
-              (All-set (Joined g.junctions) g.reaches k _ fair.0 s.shaped.joined)
-              (All-set (λ r. r.limit ≤ highest_limit) g.reaches k _ fair.1 s.shaped.limits);
-          within = All-set (λ r. r.carried ≤ r.limit) g.reaches k _ fair.2 s.within;
-        }
+    inside low = resound g (set g.reaches k (f (arc_at g.reaches k))) s (length-set g.reaches k _)
+        (All-set (FairArc g.junctions) g.reaches k _ (keeps (fair_at g s k low)) (fair_all g s))
 
     past : length g.reaches ≤ k → Sound (reach_changed f k g)
     past high = subst (λ (rs : List Arc). Sound (with_reaches g rs)) (sym (set_past g.reaches k _ high)) s
 
 pub keeps_sound : KeepsSound
 keeps_sound = record {
-  carry = λ g k a s fits. sound_changed (carrying a) k g s (λ fair. (fair.0, fair.1, fits));
-  limit = λ g k q s over under. sound_changed (limiting q) k g s (λ fair. (fair.0, under, over));
-  drain = λ g s. record {
-    shaped = reshaped g (map (carrying 0) g.reaches) s.shaped (length-map g.reaches (carrying 0))
-        (All-map (Joined g.junctions) (carrying 0) g.reaches s.shaped.joined)
-        (All-map (λ r. r.limit ≤ highest_limit) (carrying 0) g.reaches s.shaped.limits);
-    within = All-map (λ r. r.carried ≤ r.limit) (carrying 0) g.reaches
-        (All-weaker (λ r. r.carried ≤ r.limit) (λ r. 0 ≤ r.limit) (λ r h. omega arith) g.reaches s.within);
-  };
+  carry = λ g k a s fits. sound_changed (carrying a) k g s (λ fair. (fair.0, fits, fair.2));
+  limit = λ g k q s over under. sound_changed (limiting q) k g s (λ fair. (fair.0, over, under));
+  drain = λ g s. resound g (map (carrying 0) g.reaches) s (length-map g.reaches (carrying 0))
+      (All-map (FairArc g.junctions) (carrying 0) g.reaches
+      (All-weaker (FairArc g.junctions) (λ r. FairArc g.junctions (carrying 0 r)) (λ r h. (h.0, omega arith, h.2)) g.reaches (fair_all g s)));
 }
 
 pub one_changed : OneChanged
@@ -125,7 +97,7 @@ two_steps = record { forth = forth; back = back; fill = fill }
 
 bounded : (f : Arc → ℕ) (g : Net) → Sound g → ((r : Arc) → f r ≤ r.carried) → sum_of f g.reaches ≤ highest_limit * most_reaches
 bounded f g s small =
-    let each : AllByRecursion (λ r. f r ≤ highest_limit) g.reaches = All-from_get_or (λ r. f r ≤ highest_limit) g.reaches no_arc
+    let each : All (λ r. f r ≤ highest_limit) g.reaches = All-from_get_or (λ r. f r ≤ highest_limit) g.reaches no_arc
     (λ k low. omega (arith, small (arc_at g.reaches k), (fair_at g s k low).1, (fair_at g s k low).2)) in
     omega (arith, sum_of-le f highest_limit g.reaches each, s.shaped.listed)
 

@@ -1,7 +1,7 @@
 -- A network is sound where its size keeps to the bounds and each of its reaches is fair.
 use Rattle.std.proofs.Common.{ℕ, ◌<◌, ◌≤◌, ◌≢◌, length}
-use Rattle.std.specs.List.{AllByRecursion}
-use Rattle.std.proofs.ByRecursion.{All-weaker, All-get_or, All-from_get_or}
+use Rattle.std.specs.List.{All}
+use Rattle.std.proofs.lemmas.List.Elements.{All-weaker, All-get_or, All-from_get_or}
 use Rattle.flow.specs.Bounds.{most_junctions, most_reaches, highest_limit}
 use Rattle.flow.specs.Net.{Net, no_arc, arc_at, Joined, FairArc, Sound}
 
@@ -12,11 +12,11 @@ fair_at g s k low = (
   All-get_or (λ r. r.limit ≤ highest_limit) g.reaches k no_arc low s.shaped.limits,
 )
 
-pub fair_all : (g : Net) → Sound g → AllByRecursion (FairArc g.junctions) g.reaches
+pub fair_all : (g : Net) → Sound g → All (FairArc g.junctions) g.reaches
 fair_all g s = All-from_get_or (FairArc g.junctions) g.reaches no_arc (fair_at g s)
 
 pub sound_from_fair : (g : Net) → 2 ≤ g.junctions → g.junctions ≤ most_junctions → length g.reaches ≤ most_reaches →
-    g.intake < g.junctions → g.outfall < g.junctions → g.intake ≢ g.outfall → AllByRecursion (FairArc g.junctions) g.reaches → Sound g
+    g.intake < g.junctions → g.outfall < g.junctions → g.intake ≢ g.outfall → All (FairArc g.junctions) g.reaches → Sound g
 sound_from_fair g two few listed inside outside differ fair = record {
   shaped = record {
     two = two;

@@ -1,7 +1,7 @@
 -- Sums over reaches.
 use Rattle.std.proofs.Common.{◌≡◌, ℕ, zero, suc, ◌+◌, ◌*◌, ◌<◌, ◌≤◌, ◌≢◌, List, [], ◌∷◌, ◌++◌, map, length, take, refl, ap, ◌∙◌, arith}
-use Rattle.std.specs.List.{AllByRecursion}
-use Rattle.std.proofs.ByRecursion.{All-from_get_or}
+use Rattle.std.specs.List.{All}
+use Rattle.std.proofs.lemmas.List.Elements.{All-from_get_or}
 use Rattle.std.proofs.lemmas.List.{take_more}
 use Rattle.std.proofs.lemmas.Bool.Decides.{nat_tests}
 use Rattle.flow.specs.Net.{Arc, no_arc, arc_at}
@@ -17,9 +17,9 @@ pub sum_of-more : (f : Arc → ℕ) (rs : List Arc) (k : ℕ) → k < length rs 
 sum_of-more f rs k low = ap (sum_of f) (take_more rs k no_arc low) ∙ sum_of-push f (take k rs) (arc_at rs k)
 
 -- a sum of numbers that are at most c each
-pub sum_of-le : (f : Arc → ℕ) (c : ℕ) (rs : List Arc) → AllByRecursion (λ r. f r ≤ c) rs → sum_of f rs ≤ c * length rs
+pub sum_of-le : (f : Arc → ℕ) (c : ℕ) (rs : List Arc) → All (λ r. f r ≤ c) rs → sum_of f rs ≤ c * length rs
 sum_of-le f c [] h = omega arith
-sum_of-le f c (r ∷ rs) h = omega (arith, h.0, sum_of-le f c rs h.1)
+sum_of-le f c (r ∷ rs) h = omega (arith, h 0 no_arc (omega arith), sum_of-le f c rs (λ k d low. h (suc k) d (omega arith)))
 
 -- what passes an end of a reach is at most what it carries
 pub out_of-le : (v : ℕ) (r : Arc) → out_of v r ≤ r.carried
@@ -39,14 +39,16 @@ sum_of-append f [] others = omega arith
 sum_of-append f (r ∷ rs) others = omega (arith, sum_of-append f rs others)
 
 -- two sums of which each reach adds the same
-pub sum_of-same : (f h : Arc → ℕ) (rs : List Arc) → AllByRecursion (λ r. f r ≡ h r) rs → sum_of f rs ≡ sum_of h rs
+pub sum_of-same : (f h : Arc → ℕ) (rs : List Arc) → All (λ r. f r ≡ h r) rs → sum_of f rs ≡ sum_of h rs
 sum_of-same f h [] each = refl
-sum_of-same f h (r ∷ rs) each = omega (arith, each.0, sum_of-same f h rs each.1)
+sum_of-same f h (r ∷ rs) each =
+    omega (arith, each 0 no_arc (omega arith), sum_of-same f h rs (λ k d low. each (suc k) d (omega arith)))
 
 -- a sum to which no reach adds anything
-pub sum_of-zero : (f : Arc → ℕ) (rs : List Arc) → AllByRecursion (λ r. f r ≡ 0) rs → sum_of f rs ≡ 0
+pub sum_of-zero : (f : Arc → ℕ) (rs : List Arc) → All (λ r. f r ≡ 0) rs → sum_of f rs ≡ 0
 sum_of-zero f [] each = refl
-sum_of-zero f (r ∷ rs) each = omega (arith, each.0, sum_of-zero f rs each.1)
+sum_of-zero f (r ∷ rs) each =
+    omega (arith, each 0 no_arc (omega arith), sum_of-zero f rs (λ k d low. each (suc k) d (omega arith)))
 
 -- a sum to which reach e alone adds something
 pub sum_of-one : (f : Arc → ℕ) (rs : List Arc) (e : ℕ) → e < length rs →

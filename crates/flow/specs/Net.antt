@@ -1,6 +1,6 @@
 -- What a network means: its junctions (nodes), an intake (source), an outfall (sink), and its reaches (arcs).
 use Rattle.std.specs.Prelude.{ℕ, ◌<◌, ◌≤◌, ◌≢◌, List, length, slice_index_or}
-use Rattle.std.specs.List.{AllByRecursion}
+use Rattle.std.specs.List.{All}
 use Rattle.flow.specs.Bounds.{most_junctions, most_reaches, highest_limit}
 
 -- a reach as plain numbers: the junction that it leaves, the junction that it enters, the most that it may carry
@@ -41,12 +41,12 @@ pub record Shaped (g : Net) : Type 0 where
   pub intake_in : g.intake < g.junctions
   pub outfall_in : g.outfall < g.junctions
   pub ends_differ : g.intake ≢ g.outfall
-  pub joined : AllByRecursion (Joined g.junctions) g.reaches
-  pub limits : AllByRecursion (λ r. r.limit ≤ highest_limit) g.reaches
+  pub joined : All (Joined g.junctions) g.reaches
+  pub limits : All (λ r. r.limit ≤ highest_limit) g.reaches
 
 -- no reach carries more than its limit
 abbrev pub Within : Net → Type 0
-Within g = AllByRecursion (λ r. r.carried ≤ r.limit) g.reaches
+Within g = All (λ r. r.carried ≤ r.limit) g.reaches
 
 -- what every network keeps to
 pub record Sound (g : Net) : Type 0 where

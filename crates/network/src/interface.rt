@@ -12,76 +12,57 @@ use crate::size::Size;
 use refusal::Refusal;
 
 // The calls that every network offers, whatever it is made of. An implementation says by the ghost members what it
-// means, and shows the five calls against that meaning; code over networks is proved once, against the same.
+// means, and shows its calls against that meaning; code over networks is proved once, against the same.
 pub trait Network {
     // What the network means: its size and its list of reaches.
     ghost meaning: { Self → Net };
 
-    // Whether the implementation's own rows fit each other and, in a layer, the network below. Every maker of a
-    // network ensures it and every call keeps it, so that no network is without it.
-    ghost fits: { Self → Type 0 };
-
-    // A network that fits is sound: its numbers keep to their bounds.
-    ghost sound: { (x : Self) → fits x → Sound (meaning x) };
+    // Every network is sound: its numbers keep to their bounds.
+    ghost sound: { (x : Self) → Sound (meaning x) };
 
     // The part that answers for reach k: it gives the refusals 5, 6 and 7 of a change of that reach.
     ghost giver: { Self → ℕ → Part };
 
     // How large the network is, and where it begins and ends.
     fn size(&self) -> Size
-        requires { fits self.now }
         ensures { result ≡ size_of (meaning self.now) };
 
     // The record of reach k. Refuses 4.
     fn reach(&self, k: usize) -> Result<Reach, Refusal>
-        requires { fits self.now }
         ensures { Told (meaning self.now).reaches k result };
 
     // The lowest reach number from k on whose reach has the junction as tail or head, if there is one.
     fn touch(&self, junction: u16, k: usize) -> Option<usize>
-        requires { fits self.now }
         ensures { Touched junction (meaning self.now).reaches k result }
     {
         for i in k..self.size().reaches {
-            match self.reach(i) {
-                Ok(reach) => {
-                    if reach.tail == junction || reach.head == junction {
-                        return Some(i);
-                    }
-                }
-                Err(_) => unreachable(),
+            if self.reach(i).unwrap().touches(junction) {
+                return Some(i);
             }
         }
         None
     }
 
+    // Sets one number of reach k. Refuses 4, and then as the number asks.
+    fn change(&mut self, k: usize, change: Change) -> Result<(), Refusal>
+        ensures done { Changed change (meaning self.old) (giver self.old) k result (meaning self.new) }
+        ensures giver { (j : ℕ) → giver self.new j ≡ giver self.old j };
+
     // Sets the amount that reach k carries. Refuses 4, then 7.
     fn carry(&mut self, k: usize, amount: u32) -> Result<(), Refusal>
-        requires { fits self.old }
-        ensures fit { fits self.new }
         ensures done { Changed (changes.Carry amount) (meaning self.old) (giver self.old) k result
             (meaning self.new) }
-        ensures giver { (j : ℕ) → giver self.new j ≡ giver self.old j };
+        ensures giver { (j : ℕ) → giver self.new j ≡ giver self.old j }
+    {
+        self.change(k, Change::Carry(amount))
+    }
 
     // Sets the limit of reach k. Refuses 4, then 5, then 6.
     fn limit(&mut self, k: usize, q: u32) -> Result<(), Refusal>
-        requires { fits self.old }
-        ensures fit { fits self.new }
         ensures done { Changed (changes.Limit q) (meaning self.old) (giver self.old) k result
             (meaning self.new) }
-        ensures giver { (j : ℕ) → giver self.new j ≡ giver self.old j };
-}
-
-// Sets one number of reach k of any network, by the call that sets it.
-pub fn apply<N: Network>(net: &mut N, k: usize, change: Change) -> Result<(), Refusal>
-    requires { N.fits net.old }
-    ensures fit { N.fits net.new }
-    ensures done { Changed change (N.meaning net.old) (N.giver net.old) k result
-        (N.meaning net.new) }
-    ensures giver { (j : ℕ) → N.giver net.new j ≡ N.giver net.old j }
-{
-    match change {
-        Change::Carry(amount) => net.carry(k, amount),
-        Change::Limit(q) => net.limit(k, q),
+        ensures giver { (j : ℕ) → giver self.new j ≡ giver self.old j }
+    {
+        self.change(k, Change::Limit(q))
     }
 }

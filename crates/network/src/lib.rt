@@ -11,7 +11,7 @@ pub mod rows;
 pub mod size;
 
 pub use change::Change;
-pub use interface::{Network, apply};
-pub use reach::Reach;
+pub use interface::Network;
+pub use reach::{BrokenBound, Reach};
 pub use row::Row;
 pub use size::Size;

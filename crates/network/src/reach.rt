@@ -1,5 +1,8 @@
-ghost use Rattle.std.specs.Prelude.{◌≡◌, ◌-◌, ◌≤◌, if◌then◌else◌};
+ghost use Rattle.std.specs.Prelude.{◌≤◌};
 ghost use Rattle.flow.specs.Bounds.{highest_limit};
+
+use crate::bounds::HIGHEST_LIMIT;
+use crate::row::Row;
 
 // The record of a reach: the junction that it leaves, the junction that it enters, its limit and the amount that it
 // carries. No record exists that carries more than its limit, or whose limit is above the highest.
@@ -13,7 +16,18 @@ pub struct Reach {
     ghost bounded: { limit ≤ highest_limit },
 }
 
+// A bound of records that a row breaks.
+#[derive(Clone, Copy, PartialEq, Eq, Debug)]
+pub enum BrokenBound {
+    CarriedAboveLimit,
+    LimitTooHigh,
+}
+
 impl Reach {
+    ghost use Rattle.std.specs.Prelude.{◌≡◌, ◌-◌, if◌then◌else◌, ◌↔◌, IsTrue};
+    ghost use Rattle.network.specs.Answers.{arc_in};
+    ghost use Rattle.network.specs.Touching.{Touches};
+
     // How much more a step along this reach can take: forward what is left of the limit, back what is carried.
     pub fn headroom(self, back: bool) -> u32
         ensures { result ≡ (if back then self.carried else self.limit - self.carried) }
@@ -23,5 +37,36 @@ impl Reach {
         } else {
             self.limit - self.carried
         }
+    }
+
+    // Whether the junction is the tail or the head.
+    pub fn touches(self, junction: u16) -> bool
+        ensures { IsTrue result ↔ Touches junction (arc_in self) }
+    {
+        self.tail == junction || self.head == junction
+    }
+}
+
+impl TryFrom<Row> for Reach {
+    type Error = BrokenBound;
+
+    ghost use Rattle.network.specs.Rows.{Checked};
+
+    ghost try_from_gives = { Checked };
+
+    // The record of the reach in this row, or the bound that the row breaks.
+    fn try_from(row: Row) -> Result<Reach, BrokenBound> {
+        if row.carried > row.limit {
+            return Err(BrokenBound::CarriedAboveLimit);
+        }
+        if row.limit > HIGHEST_LIMIT {
+            return Err(BrokenBound::LimitTooHigh);
+        }
+        Ok(Reach {
+            tail: row.tail,
+            head: row.head,
+            limit: row.limit,
+            carried: row.carried,
+        })
     }
 }

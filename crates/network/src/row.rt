@@ -1,13 +1,14 @@
-ghost use Rattle.network.specs.Rows.{Checked};
+ghost use Rattle.std.specs.Prelude.{◌↔◌, IsTrue};
+ghost use Rattle.network.specs.Touching.{Touches};
+ghost use Rattle.network.specs.Rows.{arc_of_row};
 ghost use Rattle.network.specs.Changing.{Remade};
 
-use crate::bounds::{HIGHEST_LIMIT, HIGHEST_SETTING};
+use crate::bounds::HIGHEST_SETTING;
 use crate::change::Change;
-use crate::reach::Reach;
 use refusal::{Fault, Part, Refusal};
 
 // A row of a table: the four numbers of a reach, with nothing known of them.
-#[derive(Clone, Copy, PartialEq, Eq, Debug)]
+#[derive(Clone, Copy, PartialEq, Eq, Debug, Default)]
 pub struct Row {
     pub tail: u16,
     pub head: u16,
@@ -16,19 +17,11 @@ pub struct Row {
 }
 
 impl Row {
-    // The record of the reach in this row; nothing where the row breaks a bound of records.
-    pub fn to_reach(self) -> Option<Reach>
-        ensures { Checked self result }
+    // Whether the junction is the tail or the head.
+    pub fn touches(self, junction: u16) -> bool
+        ensures { IsTrue result ↔ Touches junction (arc_of_row self) }
     {
-        if self.carried > self.limit || self.limit > HIGHEST_LIMIT {
-            return None;
-        }
-        Some(Reach {
-            tail: self.tail,
-            head: self.head,
-            limit: self.limit,
-            carried: self.carried,
-        })
+        self.tail == junction || self.head == junction
     }
 
     // The row with one of its numbers set, or the refusal of the part that answers for it.
@@ -41,10 +34,8 @@ impl Row {
                     return Err(Refusal::new(Fault::AmountAboveLimit, part));
                 }
                 Ok(Row {
-                    tail: self.tail,
-                    head: self.head,
-                    limit: self.limit,
                     carried: amount,
+                    ..self
                 })
             }
             Change::Limit(q) => {
@@ -54,12 +45,7 @@ impl Row {
                 if q < self.carried {
                     return Err(Refusal::new(Fault::LimitBelowCarried, part));
                 }
-                Ok(Row {
-                    tail: self.tail,
-                    head: self.head,
-                    limit: q,
-                    carried: self.carried,
-                })
+                Ok(Row { limit: q, ..self })
             }
         }
     }

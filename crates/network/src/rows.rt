@@ -1,6 +1,6 @@
-// Calls on a list of rows of which the first `used` hold reaches.
+// Calls on rows that hold reaches.
 ghost use Rattle.std.specs.Prelude.{◌≡◌};
-ghost use Rattle.network.specs.Rows.{arcs_of};
+ghost use Rattle.network.specs.Rows.{arcs_in};
 ghost use Rattle.network.specs.Changing.{ChangedIn, Written};
 ghost use Rattle.network.specs.Touching.{Touched};
 
@@ -8,33 +8,24 @@ use crate::change::Change;
 use crate::row::Row;
 use refusal::{Fault, Part, Refusal};
 
-// Sets one number of one of the first `used` rows, for which the part answers.
-pub fn change_in(
-    rows: &mut [Row],
-    used: usize,
-    k: usize,
-    change: Change,
-    part: Part,
-) -> Result<(), Refusal>
-    ensures done { ChangedIn change (arcs_of rows.old used) (λ _. part) k result (arcs_of rows.new used) }
+// Sets one number of row k, for which the part answers.
+pub fn change_in(rows: &mut [Row], k: usize, change: Change, part: Part) -> Result<(), Refusal>
+    ensures done { ChangedIn change (arcs_in rows.old) (λ _. part) k result (arcs_in rows.new) }
     ensures rows { Written change rows.old k result rows.new }
 {
-    if k >= rows.len().min(used) {
+    if k >= rows.len() {
         return Err(Refusal::new(Fault::NoReach, Part::Network));
     }
     rows[k] = rows[k].change(change, part)?;
     Ok(())
 }
 
-// The lowest number from k on of a row, among the first `used`, that has the junction at an end.
-pub fn touch_in(rows: &[Row], used: usize, junction: u16, k: usize) -> Option<usize>
-    ensures { Touched junction (arcs_of rows.now used) k result }
+// The lowest number from k on of a row that has the junction at an end.
+pub fn touch_in(rows: &[Row], junction: u16, k: usize) -> Option<usize>
+    ensures { Touched junction (arcs_in rows.now) k result }
 {
-    for i in k..rows.len().min(used) {
-        let row = rows[i];
-        if row.tail == junction || row.head == junction {
-            return Some(i);
-        }
-    }
-    None
+    rows.iter()
+        .skip(k)
+        .position(|row| row.touches(junction))
+        .map(|i| k + i)
 }

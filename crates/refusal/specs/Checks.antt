@@ -31,3 +31,8 @@ unplaced f p = record { fault = f; place = None; part = p }
 
 abbrev pub placed_at : Refusal → ℕ → Refusal
 placed_at e p = record { fault = e.fault; place = Some p; part = e.part }
+
+-- an answer with the place of the record that was refused
+abbrev pub located_at : {A : Type 0} → Result A Refusal → ℕ → Result A Refusal
+located_at (Ok x) p = Ok x
+located_at (Err e) p = Err (placed_at e p)

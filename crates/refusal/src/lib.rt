@@ -5,28 +5,28 @@
 ghost use Rattle.std.specs.Prelude.{◌≡◌, Some};
 ghost use Rattle.refusal.specs.Numbers.{number_of, word_of};
 ghost use Rattle.refusal.specs.Texts.{place_text, refusal_text};
-ghost use Rattle.refusal.specs.Checks.{unplaced, placed_at};
+ghost use Rattle.refusal.specs.Checks.{unplaced, placed_at, located_at};
 ghost use Rattle.refusal.specs.Laws.{OneAnswer};
 
 use std::fmt;
 
-// Why a call refuses. `number_of` in specs/Numbers.antt gives each its number.
+// Why a call refuses, with the number of each refusal. `number_of` in specs/Numbers.antt says when each applies.
 #[derive(Clone, Copy, PartialEq, Eq, Debug)]
 pub enum Fault {
-    JunctionCount,
-    NoJunction,
-    Same,
-    NoReach,
-    LimitTooHigh,
-    LimitBelowCarried,
-    AmountAboveLimit,
-    NoPlace,
-    StackTooLarge,
-    RouteExists,
-    ByteNotAllowed,
-    EndsEarly,
-    InputTooLong,
-    TooLate,
+    JunctionCount = 1,
+    NoJunction = 2,
+    Same = 3,
+    NoReach = 4,
+    LimitTooHigh = 5,
+    LimitBelowCarried = 6,
+    AmountAboveLimit = 7,
+    NoPlace = 8,
+    StackTooLarge = 9,
+    RouteExists = 10,
+    ByteNotAllowed = 11,
+    EndsEarly = 12,
+    InputTooLong = 13,
+    TooLate = 14,
 }
 
 impl Fault {
@@ -34,22 +34,7 @@ impl Fault {
     pub fn number(self) -> u8
         ensures { result ≡ number_of self }
     {
-        match self {
-            Fault::JunctionCount => 1,
-            Fault::NoJunction => 2,
-            Fault::Same => 3,
-            Fault::NoReach => 4,
-            Fault::LimitTooHigh => 5,
-            Fault::LimitBelowCarried => 6,
-            Fault::AmountAboveLimit => 7,
-            Fault::NoPlace => 8,
-            Fault::StackTooLarge => 9,
-            Fault::RouteExists => 10,
-            Fault::ByteNotAllowed => 11,
-            Fault::EndsEarly => 12,
-            Fault::InputTooLong => 13,
-            Fault::TooLate => 14,
-        }
+        self as u8
     }
 }
 
@@ -67,13 +52,13 @@ impl fmt::Display for Part {
     ghost output = { λ p. Some (word_of p) };
 
     fn fmt<W: fmt::Write>(&self, f: &mut fmt::Formatter<W>) -> fmt::Result {
-        match self {
-            Part::Reader => f.write_str("reader"),
-            Part::Draft => f.write_str("draft"),
-            Part::Chambers => f.write_str("chambers"),
-            Part::Gathering => f.write_str("gathering"),
-            Part::Network => f.write_str("network"),
-        }
+        f.write_str(match self {
+            Part::Reader => "reader",
+            Part::Draft => "draft",
+            Part::Chambers => "chambers",
+            Part::Gathering => "gathering",
+            Part::Network => "network",
+        })
     }
 }
 
@@ -102,11 +87,17 @@ impl Refusal {
         ensures { result ≡ placed_at self place }
     {
         Refusal {
-            fault: self.fault,
             place: Some(place),
-            part: self.part,
+            ..self
         }
     }
+}
+
+// An answer with the place of the record that was refused.
+pub fn located<T>(answer: Result<T, Refusal>, place: usize) -> Result<T, Refusal>
+    ensures { result ≡ located_at answer place }
+{
+    answer.map_err(|refusal| refusal.at(place))
 }
 
 // The words that tell a place, if there is one.
@@ -128,10 +119,7 @@ impl fmt::Display for Refusal {
     ghost output = { λ e. Some (refusal_text (number_of e.fault) e.place e.part) };
 
     fn fmt<W: fmt::Write>(&self, f: &mut fmt::Formatter<W>) -> fmt::Result {
-        let number = self.fault.number();
-        let at = At(self.place);
-        let part = self.part;
-        write!(f, "refused {number}{at} in {part}")
+        write!(f, "refused {}{} in {}", self.fault.number(), At(self.place), self.part)
     }
 }
 
