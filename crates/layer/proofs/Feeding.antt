@@ -1,7 +1,7 @@
 -- Sources and sinks over a sound network make a sound network.
 use Rattle.std.proofs.Common.{ℕ, ◌+◌, ◌<◌, ◌≤◌, List, [], ◌∷◌, ◌++◌, length, take, drop, subst, arith, length-append}
-use Rattle.std.specs.List.{AllByRecursion}
-use Rattle.std.proofs.ByRecursion.{All-weaker, All-append}
+use Rattle.std.specs.List.{All}
+use Rattle.std.proofs.lemmas.List.Elements.{All-weaker, All-append}
 use Rattle.std.proofs.lemmas.List.{take-append-drop}
 use Rattle.flow.specs.Net.{Arc, Net, FairArc, Sound}
 use Rattle.flow.proofs.Fairness.{fair_all, sound_from_fair}
@@ -20,7 +20,7 @@ wider : (n : ℕ) (r : Arc) → FairArc n r → FairArc (n + 2) r
 wider n r s = ((omega (arith, s.0.0), omega (arith, s.0.1), s.0.2), s.1, s.2)
 
 opened_sound : (g : Net) (own : List Arc) → Sound g → (0 < length own → g.junctions + 2 ≤ 512) →
-    length g.reaches + length own ≤ 2048 → AllByRecursion (FairArc (g.junctions + 2)) own → Sound (gathered g own)
+    length g.reaches + length own ≤ 2048 → All (FairArc (g.junctions + 2)) own → Sound (gathered g own)
 opened_sound g [] s small short fair = s
 opened_sound g (f ∷ fs) s small short fair =
     let n = g.junctions in

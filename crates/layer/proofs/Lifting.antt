@@ -2,8 +2,8 @@
 -- of either kind comes to on the whole list is proved here once, for every layer.
 use Rattle.std.proofs.Common.{◌≡◌, ℕ, ◌+◌, ◌-◌, ◌<◌, ◌≤◌, cond, ltb, List, ◌++◌, map, length, set, Ok, Err, Result, sym, refl, ap, ◌∙◌, subst, ⊎_elim, arith, length-append}
 use lib.ListN.{length-map}
-use Rattle.std.specs.List.{AllByRecursion}
-use Rattle.std.proofs.ByRecursion.{All-from_get_or, All-get_or, All-append}
+use Rattle.std.specs.List.{All}
+use Rattle.std.proofs.lemmas.List.Elements.{All-from_get_or, All-get_or, All-append}
 use Rattle.std.proofs.lemmas.List.{get_or-map, map-set, get_or_append_left, get_or-append-add, set-append_left, set-append_right}
 use Rattle.std.proofs.lemmas.Bool.{cases_lt, cond-true, cond-false, lt-ltb, le-ltb}
 use Rattle.refusal.specs.declared.Part.{Part}
@@ -16,14 +16,7 @@ use Rattle.network.specs.declared.change.Change.TheVariants.{Carry, Limit}
 use Rattle.network.specs.Changing.{changed, own_checks, change_checks, ChangedIn}
 use Rattle.network.proofs.Setting.{change_past, change_there}
 use Rattle.layer.specs.Layering.{layer_giver, leaving_from}
-
--- f lifts a reach of the network below to one of the layer, and `lift` a list of them; limit and carried amount stay
-pub record Lifts (f : Arc → Arc) (lift : List Arc → List Arc) : Type 0 where
-  pub long : (rs : List Arc) → length (lift rs) ≡ length rs
-  pub there : (rs : List Arc) (k : ℕ) → k < length rs → arc_at (lift rs) k ≡ f (arc_at rs k)
-  pub put : (rs : List Arc) (k : ℕ) (r : Arc) → lift (set rs k r) ≡ set (lift rs) k (f r)
-  pub checks : (c : Change) (r : Arc) (p : Part) → first_of (own_checks c (f r) p) ≡ first_of (own_checks c r p)
-  pub commutes : (c : Change) (r : Arc) → f (changed c r) ≡ changed c (f r)
+use Rattle.layer.specs.Lifting.{Lifts}
 
 -- reaches that stay as they are below
 pub unlifted : Lifts (λ r. r) (λ rs. rs)
@@ -71,7 +64,7 @@ module _ (f : Arc → Arc) (lift : List Arc → List Arc) (l : Lifts f lift) (rs
       ap (arc_at all) place ∙ get_or-append-add (lift rs) own e no_arc
 
   -- what holds of each reach, lifted or own
-  pub all_fair : (n m : ℕ) → ((r : Arc) → FairArc n r → FairArc m (f r)) → AllByRecursion (FairArc n) rs → AllByRecursion (FairArc m) own → AllByRecursion (FairArc m) all
+  pub all_fair : (n m : ℕ) → ((r : Arc) → FairArc n r → FairArc m (f r)) → All (FairArc n) rs → All (FairArc m) own → All (FairArc m) all
   all_fair n m keeps below mine = All-append (FairArc m) (lift rs) own
       (All-from_get_or (FairArc m) (lift rs) no_arc (λ k low.
       let less : k < length rs = omega (arith, l.long rs) in

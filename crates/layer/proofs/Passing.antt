@@ -1,6 +1,6 @@
 -- What passes a junction with a chamber, and what sources deliver.
 use Rattle.std.proofs.Common.{◌≡◌, ℕ, ◌<◌, eqb, ◌≢◌, List, [], ◌∷◌, ◌++◌, map, length, pos, ◌-ℤ◌, Option, sym, refl, ap, ◌∙◌, ⊎_elim, arith}
-use Rattle.std.proofs.ByRecursion.{All-weaker, All-map}
+use Rattle.std.proofs.lemmas.List.Elements.{All-weaker, All-map}
 use Rattle.std.proofs.lemmas.Int.{ints}
 use Rattle.std.proofs.lemmas.Bool.{cond-true, cond-false, eq-eqb, ne_eqb}
 use Rattle.flow.specs.Net.{Arc, Net, arc_at, FairArc, Sound}

@@ -1,7 +1,7 @@
 -- Twins of junctions, and that chambers over a sound network make a sound network.
 use Rattle.std.proofs.Common.{◌≡◌, ℕ, zero, suc, ◌+◌, ◌<◌, ◌≤◌, eqb, ◌⊎◌, List, [], ◌∷◌, map, length, Some, None, Option, sym, refl, ap, ◌∙◌, inl, inr, ⊎_elim, arith}
-use Rattle.std.specs.List.{AllByRecursion}
-use Rattle.std.proofs.ByRecursion.{All-from_get_or}
+use Rattle.std.specs.List.{All}
+use Rattle.std.proofs.lemmas.List.Elements.{All-from_get_or}
 use Rattle.std.proofs.lemmas.Bool.{cases_eq, cond-true, cond-false, eq-eqb, ne_eqb}
 use Rattle.flow.specs.Net.{Arc, Net, no_arc, arc_at, FairArc, Sound}
 use Rattle.flow.proofs.Fairness.{fair_all, sound_from_fair}
@@ -58,7 +58,7 @@ module _ (n : ℕ) (own : List Arc) (each : (e : ℕ) → e < length own → Cha
         s.2,
       )
 
-  own_fair : AllByRecursion (FairArc (n + length own)) own
+  own_fair : All (FairArc (n + length own)) own
   own_fair = All-from_get_or (FairArc (n + length own)) own no_arc (λ e low.
       let arc = each e low in (
         (omega (arith, arc.0), omega (arith, arc.1), λ same. let z : ⊥ = omega (arith, arc.0, arc.1, same) in z),

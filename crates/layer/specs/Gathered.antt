@@ -2,7 +2,7 @@
 -- A source and a sink are told by their feeders, the reaches that join them to the new intake and the new outfall.
 -- `own` is the list of the feeders, the sources' before the sinks', and g the network below.
 use Rattle.std.specs.Prelude.{◌≡◌, ℕ, ◌+◌, ◌<◌, ◌≤◌, List, [], ◌∷◌, ◌++◌, length}
-use Rattle.std.specs.List.{AllByRecursion}
+use Rattle.std.specs.List.{All}
 use Rattle.flow.specs.Bounds.{most_junctions, most_reaches, highest_limit}
 use Rattle.flow.specs.Net.{Arc, Net}
 
@@ -28,5 +28,5 @@ SinkArc n r = (r.tail < n) × (r.head ≡ n + 1) × (r.carried ≤ r.limit) × (
 pub record FeedersFit (n m : ℕ) (sources sinks : List Arc) : Type 0 where
   pub small : 0 < length sources + length sinks → n + 2 ≤ most_junctions
   pub short : m + (length sources + length sinks) ≤ most_reaches
-  pub from : AllByRecursion (SourceArc n) sources
-  pub to : AllByRecursion (SinkArc n) sinks
+  pub from : All (SourceArc n) sources
+  pub to : All (SinkArc n) sinks

@@ -1,7 +1,9 @@
 pub mod Bounds
 pub mod Keeping
+pub mod Lifting
 pub mod Ends
 pub mod Layering
+pub mod Extending
 pub mod Chambered
 pub mod Gathered
 pub mod Laws

@@ -7,7 +7,7 @@ ghost use Rattle.layer.specs.Ends.{end_of};
 use network::{Network, Reach};
 
 // An end of a reach.
-#[derive(Clone, Copy)]
+#[derive(Clone, Copy, PartialEq, Eq, Debug)]
 pub enum End {
     Tail,
     Head,
@@ -27,18 +27,12 @@ impl End {
 
 // The lowest reach number from k on whose reach has the junction at this end, found among those that touch it.
 pub fn next_at<N: Network>(net: &N, end: End, junction: u16, k: usize) -> Option<usize>
-    requires { N.fits net.now }
     ensures { FirstFrom (λ a. end_of end a ≡ junction) (N.meaning net.now).reaches k result }
 {
     let mut from = k;
     while let Some(i) = net.touch(junction, from) {
-        match net.reach(i) {
-            Ok(reach) => {
-                if end.of(reach) == junction {
-                    return Some(i);
-                }
-            }
-            Err(_) => unreachable(),
+        if end.of(net.reach(i).unwrap()) == junction {
+            return Some(i);
         }
         from = i + 1;
     }

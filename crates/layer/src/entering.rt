@@ -8,17 +8,11 @@ use network::bounds::{MOST_JUNCTIONS, MOST_REACHES};
 
 // Whether some reach of a network carries more than 0.
 pub fn carries_any<N: Network>(net: &N) -> bool
-    requires { N.fits net.now }
     ensures { result ≡ carries_any (N.meaning net.now).reaches }
 {
     for k in 0..net.size().reaches {
-        match net.reach(k) {
-            Ok(reach) => {
-                if reach.carried > 0 {
-                    return true;
-                }
-            }
-            Err(_) => unreachable(),
+        if net.reach(k).unwrap().carried > 0 {
+            return true;
         }
     }
     false

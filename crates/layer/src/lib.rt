@@ -4,9 +4,11 @@
 
 pub mod ends;
 pub mod entering;
+pub mod extended;
 pub mod laws;
 pub mod own;
 
 pub use ends::{End, next_at};
 pub use entering::{carries_any, is_crowded};
-pub use own::OwnRows;
+pub use extended::Extended;
+pub use own::{NotInserted, OwnRows};

@@ -1,10 +1,12 @@
-ghost use Rattle.std.specs.Prelude.{◌↔◌, IsTrue};
+ghost use Rattle.std.specs.Prelude.{◌≡◌, ◌↔◌, IsTrue};
+ghost use Rattle.network.specs.Answers.{arc_in};
 ghost use Rattle.network.specs.Touching.{Touches};
 ghost use Rattle.network.specs.Rows.{arc_of_row};
 ghost use Rattle.network.specs.Changing.{Remade};
 
 use crate::bounds::HIGHEST_SETTING;
 use crate::change::Change;
+use crate::reach::Reach;
 use refusal::{Fault, Part, Refusal};
 
 // A row of a table: the four numbers of a reach, with nothing known of them.
@@ -47,6 +49,20 @@ impl Row {
                 }
                 Ok(Row { limit: q, ..self })
             }
+        }
+    }
+}
+
+impl From<Reach> for Row {
+    ghost from_gives = { λ reach row. arc_of_row row ≡ arc_in reach };
+
+    // The row that holds a reach.
+    fn from(reach: Reach) -> Row {
+        Row {
+            tail: reach.tail,
+            head: reach.head,
+            limit: reach.limit,
+            carried: reach.carried,
         }
     }
 }

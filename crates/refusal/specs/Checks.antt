@@ -21,7 +21,7 @@ Judged cs (Ok _) = first_of cs ≡ None
 Judged cs (Err e) = (first_of cs ≡ Some (number_of e.fault, e.part)) × (e.place ≡ None)
 
 -- what a call leaves behind: the new value where it was accepted, the old one where it was refused
-abbrev pub afterwards : {A B : Type 0} → Result A Refusal → B → B → B
+abbrev pub afterwards : {A E B : Type 0} → Result A E → B → B → B
 afterwards (Ok _) new old = new
 afterwards (Err _) new old = old
 
