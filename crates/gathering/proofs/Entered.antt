@@ -1,19 +1,18 @@
 -- One feeder more: where it stands among the others, and that a gathering that accepts it fits still.
-use Rattle.std.proofs.Common.{◌≡◌, ℕ, ◌+◌, ◌<◌, ◌≤◌, List, [], ◌∷◌, ◌++◌, length, take, drop, Option, sym, refl, ap, ◌∙◌, subst, arith, length-append}
+use Rattle.std.proofs.Common.{◌≡◌, ℕ, ◌+◌, ◌<◌, ◌≤◌, List, [], ◌∷◌, ◌++◌, length, take, drop, Option, Ok, Result, sym, refl, ap, ◌∙◌, subst, arith, length-append}
 use Rattle.std.specs.List.{insert}
-use Rattle.std.proofs.ByRecursion.{All-push}
+use Rattle.std.proofs.lemmas.List.Elements.{All-push}
+use Rattle.std.proofs.lemmas.List.Edits.{length-insert}
 use Rattle.std.proofs.lemmas.List.{append_assoc, length_push, length-take-le, take_all, drop_all, take_at, drop_at, take-append-le, drop-append-le}
 use Rattle.flow.specs.Net.{Arc, Net}
-use Rattle.layer.specs.declared.own.OwnRows.{OwnRows}
-use Rattle.layer.specs.Keeping.{own_arcs, room_in}
+use Rattle.refusal.specs.Checks.{afterwards}
+use Rattle.layer.specs.declared.own.NotInserted.{NotInserted}
+use Rattle.layer.specs.Bounds.{most_own}
 use Rattle.layer.specs.Gathered.{SourceArc, SinkArc, FeedersFit}
-use Rattle.gathering.specs.declared.gathering.Gathering.{Gathering}
 use Rattle.gathering.specs.declared.role.Role.{Role}
 use Rattle.gathering.specs.declared.role.Role.TheVariants.{Source, Sink}
 use Rattle.gathering.specs.Bounds.{most_of_each}
-use Rattle.gathering.specs.Entering.{Feeders, of_role, with_feeder, feeder}
-use Rattle.gathering.specs.Standing.{feeders_of, GatheringFits}
-use Rattle.gathering.proofs.Feeders.{feeders_count}
+use Rattle.gathering.specs.Entering.{Feeders, of_role, with_feeder, feeder, Placed}
 use Rattle.gathering.proofs.Accepted.{Accepted}
 
 -- a list of feeders, of which the first s are the sources'
@@ -42,69 +41,70 @@ module _ (s : ℕ) (own : List Arc) (r : Arc) (within : s ≤ length own) where
       ∙ ap (λ (from : List Arc). both from (drop s (own ++ (r ∷ [])))) (take-append-le s own (r ∷ []) within)
       ∙ ap (both (take s own)) (drop-append-le s own (r ∷ []) within)
 
-module _ (r : Arc) (fs : Feeders) where
-  -- one more of a role that has a place left: the sources are few enough
-  sources_more : (role : Role) → length (of_role role fs) < most_of_each → length fs.sources ≤ most_of_each →
-      length (with_feeder role r fs).sources ≤ most_of_each
-  sources_more Source room few = simp length_push (omega arith)
-  sources_more Sink room few = few
+-- put there, it is the last of its role
+pub put : (role : Role) (s : ℕ) (own : List Arc) (r : Arc) → s ≤ length own → (at next : ℕ) → Placed role s own at next →
+    parted next (insert own at r) ≡ with_feeder role r (parted s own)
+put Source s own r within at next p = rw (p.0, p.1) (source_put s own r within)
+put Sink s own r within at next p = rw (p.0, p.1) (sink_put s own r within)
 
-  -- and so are the sinks
-  sinks_more : (role : Role) → length (of_role role fs) < most_of_each → length fs.sinks ≤ most_of_each →
-      length (with_feeder role r fs).sinks ≤ most_of_each
-  sinks_more Source room few = few
-  sinks_more Sink room few = simp length_push (omega arith)
+pub placed_low : (role : Role) (s : ℕ) (own : List Arc) → s ≤ length own → (at next : ℕ) → Placed role s own at next →
+    (at ≤ length own) × (next ≤ length own + 1)
+placed_low Source s own within at next p = (omega (arith, p.0), omega (arith, p.1))
+placed_low Sink s own within at next p = (omega (arith, p.0), omega (arith, p.1))
+
+-- so it is where the rows have taken it
+pub put_in : (role : Role) (s : ℕ) (own mine : List Arc) (r q : Arc) → s ≤ length own → (at next : ℕ) → Placed role s own at next →
+    (u : Unit {0}) (res : Result Unit NotInserted) → res ≡ Ok u → q ≡ r → mine ≡ afterwards res (insert own at q) own →
+    parted next mine ≡ with_feeder role r (parted s own)
+put_in role s own mine r q within at next p u res ok same is =
+    ap (parted next) (is ∙ ap (λ (o : Result Unit NotInserted). afterwards o (insert own at q) own) ok ∙ ap (insert own at) same)
+    ∙ put role s own r within at next p
+
+-- and there is one more of them
+pub long_in : (own mine : List Arc) (q : Arc) (at : ℕ) → at ≤ length own → (u : Unit {0}) (res : Result Unit NotInserted) → res ≡ Ok u →
+    mine ≡ afterwards res (insert own at q) own → length mine ≡ length own + 1
+long_in own mine q at low u res ok is =
+    ap length (is ∙ ap (λ (o : Result Unit NotInserted). afterwards o (insert own at q) own) ok) ∙ length-insert own at q low
 
 -- the feeders fit the network below
-abbrev Fits : Net → Feeders → Type 0
+abbrev pub Fits : Net → Feeders → Type 0
 Fits g fs = FeedersFit g.junctions (length g.reaches) fs.sources fs.sinks
 
--- they fit it with the feeder of an accepted entry
-feeders_more : (g : Net) (fs : Feeders) (v : ℕ) (stated : Option ℕ) → Fits g fs → (role : Role) → Accepted role g fs v stated →
-    Fits g (with_feeder role (feeder role g v stated) fs)
-feeders_more g fs v stated f Source a =
-    let r = feeder Source g v stated in
-    record {
-      small = λ _. a.small;
-      short = omega (arith, a.short, length_push fs.sources r, length-append fs.sources fs.sinks);
-      from = All-push (SourceArc g.junctions) fs.sources r f.from (refl, a.inside, omega arith, a.low);
-      to = f.to;
-    }
-feeders_more g fs v stated f Sink a =
-    let r = feeder Sink g v stated in
-    record {
-      small = λ _. a.small;
-      short = omega (arith, a.short, length_push fs.sinks r, length-append fs.sources fs.sinks);
-      from = f.from;
-      to = All-push (SinkArc g.junctions) fs.sinks r f.to (a.inside, refl, omega arith, a.low);
-    }
+-- what is known of the feeders over a network
+pub record Known (g : Net) (fs : Feeders) : Type 0 where
+  pub few_sources : length fs.sources ≤ most_of_each
+  pub few_sinks : length fs.sinks ≤ most_of_each
+  pub fit : Fits g fs
 
-module _ {N : Type 0} (meant : N → Net) (fit : N → Type 0) (x : Gathering N) (f : GatheringFits meant fit x)
-    (role : Role) (v : ℕ) (stated : Option ℕ) (a : Accepted role (meant x.below) (feeders_of x) v stated) where
+module _ (g : Net) (fs : Feeders) (v : ℕ) (stated : Option ℕ) (k : Known g fs) where
   -- there is room for one more
-  pub room_left : length (own_arcs x.own) < room_in x.own
-  room_left = few role a.room
-    where
-      few : (role : Role) → length (of_role role (feeders_of x)) < most_of_each → length (own_arcs x.own) < room_in x.own
-      few Source less = omega (arith, less, f.few_sinks, f.room, feeders_count x.sources (own_arcs x.own))
-      few Sink less = omega (arith, less, f.few_sources, f.room, feeders_count x.sources (own_arcs x.own))
+  pub room_left : (role : Role) → Accepted role g fs v stated → length fs.sources + length fs.sinks < most_own
+  room_left Source a = omega (arith, a.room, k.few_sinks)
+  room_left Sink a = omega (arith, a.room, k.few_sources)
 
-  -- the gathering with other rows, which hold one feeder more, fits
-  pub entered_fits : (own : OwnRows) (s : ℕ) → room_in own ≡ room_in x.own → s ≤ length (own_arcs own) →
-      parted s (own_arcs own) ≡ with_feeder role (feeder role (meant x.below) v stated) (feeders_of x) →
-      GatheringFits meant fit (record { below = x.below; base = x.base; own = own; sources = s })
-  entered_fits own s room within more =
-      let g = meant x.below in
-      let fs = feeders_of x in
-      let r = feeder role g v stated in
+  -- and it is known of the feeders with that of an accepted entry
+  pub known_more : (role : Role) → Accepted role g fs v stated → Known g (with_feeder role (feeder role g v stated) fs)
+  known_more Source a =
+      let r = feeder Source g v stated in
       record {
-        low = f.low;
-        base = f.base;
-        room = room ∙ f.room;
-        within = within;
-        few_sources = subst (λ (es : Feeders). length es.sources ≤ most_of_each) (sym more)
-            (sources_more r fs role a.room f.few_sources);
-        few_sinks = subst (λ (es : Feeders). length es.sinks ≤ most_of_each) (sym more)
-            (sinks_more r fs role a.room f.few_sinks);
-        own = subst (Fits g) (sym more) (feeders_more g fs v stated f.own role a);
+        few_sources = simp length_push (omega (arith, a.room));
+        few_sinks = k.few_sinks;
+        fit = record {
+          small = λ _. a.small;
+          short = omega (arith, a.short, length_push fs.sources r, length-append fs.sources fs.sinks);
+          from = All-push (SourceArc g.junctions) fs.sources r k.fit.from (refl, a.inside, omega arith, a.low);
+          to = k.fit.to;
+        };
+      }
+  known_more Sink a =
+      let r = feeder Sink g v stated in
+      record {
+        few_sources = k.few_sources;
+        few_sinks = simp length_push (omega (arith, a.room));
+        fit = record {
+          small = λ _. a.small;
+          short = omega (arith, a.short, length_push fs.sinks r, length-append fs.sources fs.sinks);
+          from = k.fit.from;
+          to = All-push (SinkArc g.junctions) fs.sinks r k.fit.to (a.inside, refl, omega arith, a.low);
+        };
       }

@@ -1,5 +1,5 @@
 -- An entry of a source or a sink: when it is refused, and what it makes of the feeders. g is the network below.
-use Rattle.std.specs.Prelude.{ℕ, ◌+◌, Bool, false, List, [], ◌∷◌, ◌++◌, length, Some, None, Option, nat_le, nat_lt}
+use Rattle.std.specs.Prelude.{◌≡◌, ℕ, ◌+◌, Bool, false, List, [], ◌∷◌, ◌++◌, length, Some, None, Option, nat_le, nat_lt}
 use Rattle.refusal.specs.declared.Part.TheVariants as parts
 use Rattle.refusal.specs.Checks.{Check, check}
 use Rattle.flow.specs.Bounds.{highest_setting}
@@ -32,6 +32,11 @@ of_role Sink fs = fs.sinks
 abbrev pub with_feeder : Role → Arc → Feeders → Feeders
 with_feeder Source r fs = record { sources = fs.sources ++ (r ∷ []); sinks = fs.sinks }
 with_feeder Sink r fs = record { sources = fs.sources; sinks = fs.sinks ++ (r ∷ []) }
+
+-- the place of one more of a role among all, of which the first s are the sources', and how many sources there are then
+abbrev pub Placed : Role → ℕ → List Arc → ℕ → ℕ → Type 0
+Placed Source s own at next = (at ≡ s) × (next ≡ s + 1)
+Placed Sink s own at next = (at ≡ length own) × (next ≡ s)
 
 -- the limit of a feeder: as stated, or that of a feeder with none stated
 abbrev pub limit_of : Option ℕ → ℕ

@@ -1,5 +1,11 @@
-use layer::OwnRows;
-use network::{Network, Size};
+ghost use Rattle.std.specs.Prelude.{◌≤◌, length, take, drop};
+ghost use Rattle.std.proofs.Props.{props};
+ghost use Rattle.layer.specs.Keeping.{own_arcs};
+ghost use Rattle.layer.specs.Gathered.{FeedersFit};
+ghost use Rattle.gathering.specs.Bounds.{most_of_each};
+
+use layer::Extended;
+use network::Network;
 
 pub mod calls;
 pub mod entries;
@@ -8,11 +14,14 @@ pub mod entries;
 // feeders join to the sources and the sinks.
 #[derive(Drop)]
 pub struct Gathering<N: Network> {
-    // the network below, and its size, which stays
-    below: N,
-    base: Size,
-    // the feeders: those of the sources in the order given, then those of the sinks in the order given
-    own: OwnRows,
+    // the network below, and the feeders: those of the sources in the order given, then those of the sinks in the
+    // order given
+    extended: Extended<N>,
     // how many sources there are
     sources: usize,
+    ghost within: { sources ≤ length (own_arcs extended.own) },
+    ghost few_sources: { length (take sources (own_arcs extended.own)) ≤ most_of_each },
+    ghost few_sinks: { length (drop sources (own_arcs extended.own)) ≤ most_of_each },
+    ghost fit: { FeedersFit (N.meaning extended.below).junctions (length (N.meaning extended.below).reaches)
+        (take sources (own_arcs extended.own)) (drop sources (own_arcs extended.own)) } by { Prim.hlevel props },
 }

@@ -11,18 +11,12 @@ pub const UNSTATED_LIMIT: u32 = 1_000_000;
 pub fn limit_of(stated: Option<u32>) -> u32
     ensures { result ≡ limit_of stated }
 {
-    match stated {
-        Some(limit) => limit,
-        None => UNSTATED_LIMIT,
-    }
+    stated.unwrap_or(UNSTATED_LIMIT)
 }
 
 // Whether a limit is stated that is above the highest that may be set.
 pub fn is_too_high(stated: Option<u32>) -> bool
     ensures { result ≡ too_high stated }
 {
-    match stated {
-        Some(limit) => limit > HIGHEST_SETTING,
-        None => false,
-    }
+    stated.is_some_and(|limit| limit > HIGHEST_SETTING)
 }
