@@ -1,8 +1,9 @@
 -- An entry that no check is against: what is known of it, and what it makes of the chambers and of the network.
 use Rattle.std.proofs.Common.{◌≡◌, ℕ, ◌+◌, ◌<◌, ◌≤◌, Bool, true, false, cond, eqb, ◌≢◌, List, [], ◌∷◌, ◌++◌, map, length, get_or, set, Some, None, Option, sym, refl, ap, ◌∙◌, subst, ⊎_elim, append_assoc, arith, get_or-set_other, get_or-set_same}
-use Rattle.std.specs.List.{AllByRecursion}
-use Rattle.std.proofs.ByRecursion.{All-weaker, All-from_get_or}
+use Rattle.std.specs.List.{All}
+use Rattle.std.proofs.lemmas.List.Elements.{All-weaker, All-from_get_or, All-head, All-tail}
 use Rattle.std.proofs.lemmas.List.{length_push, get_or_push, get_or_append_left, map-append}
+use Rattle.std.proofs.lemmas.List.Folds.{map_fixed}
 use Rattle.std.proofs.lemmas.Bool.{cases_eq, cases_lt, eq-eqb, ne_eqb, cond-true, cond-false}
 use Rattle.std.proofs.lemmas.Bool.Decides.{nat_tests}
 use Rattle.refusal.specs.Checks.{first_of}
@@ -81,15 +82,10 @@ each_push P rs x each new e low = ⊎_elim
     (cases_lt e (length rs))
 
 -- two ways to change each reach of a list that agree on each of its reaches
-map_twice : (f h k : Arc → Arc) (rs : List Arc) → AllByRecursion (λ r. f r ≡ h (k r)) rs → map f rs ≡ map h (map k rs)
+map_twice : (f h k : Arc → Arc) (rs : List Arc) → All (λ r. f r ≡ h (k r)) rs → map f rs ≡ map h (map k rs)
 map_twice f h k [] same = refl
 map_twice f h k (r ∷ rs) same =
-    ap (λ (x : Arc). x ∷ map f rs) same.0 ∙ ap (λ (xs : List Arc). h (k r) ∷ xs) (map_twice f h k rs same.1)
-
--- a way that changes none of them
-map_still : (f : Arc → Arc) (rs : List Arc) → AllByRecursion (λ r. f r ≡ r) rs → map f rs ≡ rs
-map_still f [] same = refl
-map_still f (r ∷ rs) same = ap (λ (x : Arc). x ∷ map f rs) same.0 ∙ ap (λ (xs : List Arc). r ∷ xs) (map_still f rs same.1)
+    cc (All-head (λ r. f r ≡ h (k r)) r rs same, map_twice f h k rs (All-tail (λ r. f r ≡ h (k r)) r rs same))
 
 module _ (g : Net) (own : List Arc) (v q : ℕ) (a : Admitted g own v q) (f : Chambering g.junctions (length g.reaches) own) where
   abbrev n : ℕ
@@ -112,15 +108,15 @@ module _ (g : Net) (own : List Arc) (v q : ℕ) (a : Admitted g own v q) (f : Ch
   }
 
   -- the array with the new twin tells the twins
-  pub admitted_known : (twins : List (Option ℕ)) → length twins ≡ most_junctions →
+  pub admitted_told : (twins : List (Option ℕ)) → length twins ≡ most_junctions →
       ((w : ℕ) → w < most_junctions → get_or twins w None ≡ twin_of own w) →
       (w : ℕ) → w < most_junctions → get_or (set twins v (Some (n + length own))) w None ≡ twin_of more w
-  admitted_known twins wide known w low = ⊎_elim
+  admitted_told twins wide told w low = ⊎_elim
       (λ (is : w ≡ v).
       let there : v < length twins = omega (arith, a.inside, a.small) in
       subst (λ (u : ℕ). get_or (set twins v (Some (n + length own))) u None ≡ twin_of more u) (sym is)
       (get_or-set_same twins v (Some (n + length own)) None there ∙ sym (twin_new own new a.lone)))
-      (λ (ne : w ≢ v). get_or-set_other twins v w (Some (n + length own)) None ne ∙ known w low ∙ sym (twin_other own new w ne))
+      (λ (ne : w ≢ v). get_or-set_other twins v w (Some (n + length own)) None ne ∙ told w low ∙ sym (twin_other own new w ne))
       (cases_eq w v)
 
   -- what leaves a junction of the network below once the chamber is there
@@ -148,11 +144,11 @@ module _ (g : Net) (own : List Arc) (v q : ℕ) (a : Admitted g own v q) (f : Ch
     twin = n + length own
 
     -- a reach of the network below leaves v's twin in place of v, and a chamber's reach leaves what it left
-    below_again : AllByRecursion (λ r. leaving_from (left_from more) r ≡ leaving_from (instead v twin) (leaving_from (left_from own) r)) g.reaches
+    below_again : All (λ r. leaving_from (left_from more) r ≡ leaving_from (instead v twin) (leaving_from (left_from own) r)) g.reaches
     below_again = All-weaker (FairArc n) (λ r. leaving_from (left_from more) r ≡ leaving_from (instead v twin) (leaving_from (left_from own) r))
         (λ r fair. ap (λ (t : ℕ). leaving_from (λ _. t) r) (left_more r.tail fair.0.0)) g.reaches (fair_all g s)
 
-    own_still : AllByRecursion (λ r. leaving_from (instead v twin) r ≡ r) own
+    own_still : All (λ r. leaving_from (instead v twin) r ≡ r) own
     own_still = All-from_get_or (λ r. leaving_from (instead v twin) r ≡ r) own no_arc (λ e low.
         let r = arc_at own e in
         let away : r.tail ≢ v = λ is.
@@ -166,7 +162,7 @@ module _ (g : Net) (own : List Arc) (v q : ℕ) (a : Admitted g own v q) (f : Ch
         let was = map (leaving_from (left_from own)) g.reaches in
         ap (λ (xs : List Arc). xs ++ more)
         (map_twice (leaving_from (left_from more)) step (leaving_from (left_from own)) g.reaches below_again)
-        ∙ ap (λ (xs : List Arc). map step was ++ (xs ++ (new ∷ []))) (sym (map_still step own own_still))
+        ∙ ap (λ (xs : List Arc). map step was ++ (xs ++ (new ∷ []))) (sym (map_fixed step own own_still))
         ∙ sym (append_assoc (map step was) (map step own) (new ∷ []))
         ∙ ap (λ (xs : List Arc). xs ++ (new ∷ [])) (sym (map-append step was own))
 

@@ -1,5 +1,10 @@
-use layer::OwnRows;
-use network::{Network, Size};
+ghost use Rattle.std.specs.Prelude.{◌≡◌, ◌<◌, ℕ, length, None, slice_index_or};
+ghost use Rattle.std.proofs.Props.{props};
+ghost use Rattle.layer.specs.Keeping.{own_arcs};
+ghost use Rattle.layer.specs.Chambered.{twin_of, Chambering};
+
+use layer::Extended;
+use network::Network;
 
 pub mod calls;
 pub mod entries;
@@ -9,11 +14,13 @@ mod twins;
 // left v leaves its twin, and between them stands one reach with the chamber's limit.
 #[derive(Drop)]
 pub struct Chambers<N: Network> {
-    // the network below, and its size, which stays
-    below: N,
-    base: Size,
-    // the chambers' reaches, each from a junction of the network below to its twin
-    own: OwnRows,
+    // the network below, and the chambers' reaches, each from a junction of it to the junction's twin
+    extended: Extended<N>,
     // the twin of each junction of the network below, where it has a chamber
     twins: [Option<u16>; 512],
+    // the chambers fit the network below
+    ghost fit: { Chambering (N.meaning extended.below).junctions (length (N.meaning extended.below).reaches)
+        (own_arcs extended.own) } by { Prim.hlevel props },
+    // the array tells the twin of each junction
+    ghost told: { (v : ℕ) → v < 512 → slice_index_or twins v None ≡ twin_of (own_arcs extended.own) v } by { Prim.hlevel props },
 }

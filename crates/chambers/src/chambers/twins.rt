@@ -7,10 +7,7 @@ pub fn left_from(twins: &[Option<u16>], v: u16) -> u16
     requires { v < length twins.now }
     ensures { result ≡ or_self (slice_index_or twins.now v None) v }
 {
-    match twins[v as usize] {
-        Some(twin) => twin,
-        None => v,
-    }
+    twins[usize::from(v)].unwrap_or(v)
 }
 
 // Whether v has a twin.
@@ -18,5 +15,5 @@ pub fn has_twin(twins: &[Option<u16>], v: u16) -> bool
     requires { v < length twins.now }
     ensures { result ≡ is_some (slice_index_or twins.now v None) }
 {
-    twins[v as usize].is_some()
+    twins[usize::from(v)].is_some()
 }
