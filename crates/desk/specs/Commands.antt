@@ -1,5 +1,6 @@
 -- The commands that a drawing gives, after its table.
 use Rattle.std.specs.Prelude.{ℕ, Some, None, Ok, Err, Option, Result}
+use Rattle.refusal.specs.declared.Fault.{Fault}
 use Rattle.refusal.specs.declared.Fault.TheVariants.{ByteNotAllowed}
 use Rattle.refusal.specs.declared.Refusal.{Refusal}
 use Rattle.drawing.specs.Records.{Said, shape, name, reach, table_end, chamber, source, sink, limit, settle, drain, bottleneck, tally}
@@ -22,6 +23,11 @@ command_of (source j q) = None
 command_of (sink j q) = None
 command_of (settle b) = None
 command_of bottleneck = None
+
+-- the command, if there is one; else the letter of the record is a byte that is not allowed
+abbrev pub allowed : Option Command → Result Command Fault
+allowed (Some c) = Ok c
+allowed None = Err ByteNotAllowed
 
 -- commands, each with the place of its record, up to the end of the input or to a refusal that ends the program
 pub data Asked : Type 0 where

@@ -1,5 +1,5 @@
 -- The lines that the program prints, each without its end.
-use Rattle.std.specs.Prelude.{ℕ, List, [], ◌∷◌, ◌++◌, ℤ, Some, codes, decimal}
+use Rattle.std.specs.Prelude.{ℕ, List, [], ◌∷◌, ◌++◌, ℤ, Some, None, Ok, Err, Option, Result, codes, decimal}
 use Rattle.std.specs.Fmt.{signed_decimal}
 use Rattle.refusal.specs.declared.Part.{Part}
 use Rattle.refusal.specs.declared.Refusal.{Refusal}
@@ -47,3 +47,13 @@ Lines = List (List ℕ)
 abbrev pub text : Lines → List ℕ
 text [] = []
 text (l ∷ ls) = (l ++ (10 ∷ [])) ++ text ls
+
+-- a record at the place p that is refused with a number by a part, or these lines where it is not
+abbrev pub refusable : Option (ℕ × Part) → ℕ → Lines → Lines
+refusable (Some r) p ls = refused_line r.0 p r.1 ∷ []
+refusable None p ls = ls
+
+-- the lines after an answer: a refusal's line is the last
+abbrev pub going_on : Result Unit Refusal → Lines → Lines
+going_on (Ok _) ls = ls
+going_on (Err e) ls = refusal_line e ∷ []

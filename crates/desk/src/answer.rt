@@ -9,14 +9,12 @@ use network::Network;
 
 // Carries out a command whose record stands at the place, over any network, and gives the line that says so.
 pub fn carry_out<N: Network>(net: &mut N, command: Command, place: usize) -> Line
-    requires { N.fits net.old }
-    ensures fit { N.fits net.new }
     ensures done { (line_text result, N.meaning net.new)
         ≡ answered command place (N.giver net.old) (N.meaning net.old) }
     ensures giver { (j : ℕ) → N.giver net.new j ≡ N.giver net.old j }
 {
     match command {
-        Command::Limit { reach, limit } => match net.limit(reach as usize, limit) {
+        Command::Limit { reach, limit } => match net.limit(usize::from(reach), limit) {
             Ok(()) => Line::Limit { reach, limit },
             Err(refusal) => Line::Refused(refusal.at(place)),
         },

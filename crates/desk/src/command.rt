@@ -1,8 +1,9 @@
 ghost use Rattle.std.specs.Prelude.{◌≡◌};
 ghost use Rattle.drawing.specs.Records.{said};
-ghost use Rattle.desk.specs.Commands.{command_of};
+ghost use Rattle.desk.specs.Commands.{command_of, allowed};
 
 use drawing::Record;
+use refusal::Fault;
 
 // A command that the program carries out.
 #[derive(Clone, Copy)]
@@ -12,16 +13,18 @@ pub enum Command {
     Tally,
 }
 
-impl Command {
-    // The command that a record gives; nothing for a record that gives none.
-    pub fn of(item: Record<'_>) -> Option<Command>
-        ensures { result ≡ command_of (said item.entry) }
-    {
+impl TryFrom<Record<'_>> for Command {
+    type Error = Fault;
+
+    ghost try_from_gives = { λ item given. given ≡ allowed (command_of (said item)) };
+
+    // The command that a record gives; the letter of a record that gives none is a byte that is not allowed.
+    fn try_from(item: Record<'_>) -> Result<Command, Fault> {
         match item {
-            Record::Limit { reach, limit } => Some(Command::Limit { reach, limit }),
-            Record::Drain => Some(Command::Drain),
-            Record::Tally => Some(Command::Tally),
-            _ => None,
+            Record::Limit { reach, limit } => Ok(Command::Limit { reach, limit }),
+            Record::Drain => Ok(Command::Drain),
+            Record::Tally => Ok(Command::Tally),
+            _ => Err(Fault::ByteNotAllowed),
         }
     }
 }

@@ -1,18 +1,19 @@
 ghost use Rattle.std.specs.Prelude.{◌≡◌, ◌∷◌, length};
+ghost use Rattle.std.specs.Iterator.{YieldsFirstBy, item_count};
 ghost use Rattle.drawing.specs.Ahead.{ahead};
 ghost use Rattle.desk.specs.declared.desk.Phase.TheVariants as phases;
 ghost use Rattle.desk.specs.Lines.{line_text, network_line};
 ghost use Rattle.desk.specs.Commands.{asked, asked_as};
 ghost use Rattle.desk.specs.Answering.{opened_lines};
 ghost use Rattle.desk.specs.Laws.{lines_for};
-ghost use Rattle.desk.specs.Rest.{rest, Gives};
+ghost use Rattle.desk.specs.Rest.{rest};
 
 use crate::answer::carry_out;
 use crate::command::Command;
 use crate::line::Line;
 use drawing::Reader;
 use network::Network;
-use refusal::{Fault, Part, Refusal};
+use refusal::{Part, Refusal};
 
 // How far a desk has come.
 #[derive(Clone, Copy)]
@@ -43,15 +44,13 @@ fn next_command(reader: &mut Reader<'_>) -> Result<Option<(Command, usize)>, Ref
     let Some(item) = reader.next()? else {
         return Ok(None);
     };
-    match Command::of(item) {
-        Some(command) => Ok(Some((command, place))),
-        None => Err(Refusal::new(Fault::ByteNotAllowed, Part::Reader).at(place)),
-    }
+    let refuse = |fault| Refusal::new(fault, Part::Reader).at(place);
+    let command = Command::try_from(item).map_err(refuse)?;
+    Ok(Some((command, place)))
 }
 
 // The line that tells the size of a network.
 fn network_line<N: Network>(net: &N) -> Line
-    requires { N.fits net.now }
     ensures { line_text result ≡ network_line (N.meaning net.now).junctions (length (N.meaning net.now).reaches) }
 {
     let size = net.size();
@@ -64,9 +63,8 @@ fn network_line<N: Network>(net: &N) -> Line
 impl<'a, N: Network> Desk<'a, N> {
     // A desk for the commands that the reader has ahead of it.
     pub fn new(reader: Reader<'a>, network: N) -> Desk<'a, N>
-        requires { N.fits network }
-        ensures fit { N.fits result.network }
-        ensures lines { rest N.meaning N.giver result ≡ opened_lines (asked (ahead reader.entry)) (N.giver network) (N.meaning network) }
+        ensures lines { rest N.meaning N.giver result
+            ≡ opened_lines (asked (ahead reader.entry)) (N.giver network) (N.meaning network) }
         ensures count { length (rest N.meaning N.giver result) ≡ lines_for (asked (ahead reader.entry)) }
     {
         Desk {
@@ -78,53 +76,53 @@ impl<'a, N: Network> Desk<'a, N> {
 
     // The first line.
     fn open(&mut self) -> Line
-        requires fit { N.fits self.old.network }
-        requires phase { self.old.phase ≡ phases.Opening }
-        ensures fit { N.fits self.new.network }
-        ensures line { rest N.meaning N.giver self.old ≡ line_text result ∷ rest N.meaning N.giver self.new }
+        requires { self.old.phase ≡ phases.Opening }
+        ensures { rest N.meaning N.giver self.old ≡ line_text result ∷ rest N.meaning N.giver self.new }
     {
         match next_command(&mut self.reader) {
+            Ok(next) => {
+                self.phase = match next {
+                    Some((command, place)) => Phase::Held { command, place },
+                    None => Phase::Over,
+                };
+                network_line(&self.network)
+            }
             Err(refusal) => {
                 self.phase = Phase::Over;
                 Line::Refused(refusal)
-            }
-            Ok(None) => {
-                self.phase = Phase::Over;
-                network_line(&self.network)
-            }
-            Ok(Some((command, place))) => {
-                self.phase = Phase::Held { command, place };
-                network_line(&self.network)
             }
         }
     }
 
     // The line of the next command, once the network is told.
     fn command(&mut self) -> Option<Line>
-        requires fit { N.fits self.old.network }
-        requires phase { self.old.phase ≡ phases.Commands }
-        ensures fit { N.fits self.new.network }
-        ensures line { Gives result (rest N.meaning N.giver self.old) (rest N.meaning N.giver self.new) }
+        requires { self.old.phase ≡ phases.Commands }
+        ensures { YieldsFirstBy line_text (rest N.meaning N.giver) self.old result self.new }
     {
         match next_command(&mut self.reader) {
-            Err(refusal) => {
-                self.phase = Phase::Over;
-                Some(Line::Refused(refusal))
-            }
+            Ok(Some((command, place))) => Some(carry_out(&mut self.network, command, place)),
             Ok(None) => {
                 self.phase = Phase::Over;
                 None
             }
-            Ok(Some((command, place))) => Some(carry_out(&mut self.network, command, place)),
+            Err(refusal) => {
+                self.phase = Phase::Over;
+                Some(Line::Refused(refusal))
+            }
         }
     }
+}
+
+// The lines, one after the other, up to the last.
+impl<N: Network + Drop> Iterator for Desk<'_, N> {
+    type Item = Line;
+
+    ghost next_gives = { YieldsFirstBy line_text (rest N.meaning N.giver) };
+
+    ghost remaining = { item_count (rest N.meaning N.giver) };
 
     // The next line, or nothing where all lines were given.
-    pub fn next(&mut self) -> Option<Line>
-        requires { N.fits self.old.network }
-        ensures fit { N.fits self.new.network }
-        ensures line { Gives result (rest N.meaning N.giver self.old) (rest N.meaning N.giver self.new) }
-    {
+    fn next(&mut self) -> Option<Line> {
         match self.phase {
             Phase::Opening => Some(self.open()),
             Phase::Held { command, place } => {

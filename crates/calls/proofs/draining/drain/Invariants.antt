@@ -4,8 +4,7 @@ use Rattle.calls.proofs.draining.drain.Given as goal
 
 -- the reaches below k are dry, and the others as they were
 abbrev pub invariant-loop-k : goal.invariant-loop-k
-invariant-loop-k g l =
-    let was = g.N.Network.meaning l.initial.net in
-    g.N.Network.fits l.net
-    × (g.N.Network.meaning l.net ≡ dried_to l.k was)
-    × ((j : ℕ) → g.N.Network.giver l.net j ≡ g.N.Network.giver l.initial.net j)
+invariant-loop-k g l = record {
+  done : g.N.Network.meaning l.net ≡ dried_to l.k (g.N.Network.meaning l.initial.net);
+  giver : (j : ℕ) → g.N.Network.giver l.net j ≡ g.N.Network.giver l.initial.net j;
+}

@@ -1,14 +1,6 @@
-use Rattle.std.proofs.Common.{refl}
-use Rattle.drawing.specs.Ahead.{ahead}
-use Rattle.desk.specs.Commands.{asked}
+use Rattle.std.proofs.Common.{rules}
 use Rattle.desk.proofs.Counting.{lines_counted}
 use Rattle.desk.proofs.desk.Desk.new.Goals as goal
 
-pub returns : goal.returns
-returns g c =
-    let net = c.args.network in
-    record {
-      fit = c.requires;
-      lines = refl;
-      count = lines_counted (asked (ahead c.args.reader)) (g.N.Network.giver net) (g.N.Network.meaning net);
-    }
+pub returns-clause-count : goal.returns-clause-count
+returns-clause-count g c = search (rules, lines_counted)
