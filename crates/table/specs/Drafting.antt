@@ -13,7 +13,7 @@ use Rattle.table.specs.Laid.{net_in}
 
 -- the network that a draft has come to
 abbrev pub draft_net : Draft → Net
-draft_net d = net_in d.rows.now d.used d.junctions d.intake d.outfall
+draft_net d = net_in d.rows.now d.size
 
 -- a new draft: two junctions and no reach
 abbrev pub fresh : Net
@@ -28,6 +28,7 @@ shape_checks g n i o =
     ∷ check (i == o) 3 parts.Draft
     ∷ check (nat_lt 0 (length g.reaches)) 14 parts.Draft ∷ []
 
+-- the network with another number of junctions, another intake and another outfall
 abbrev pub with_shape : Net → ℕ → ℕ → ℕ → Net
 with_shape g n i o = record { junctions = n; intake = i; outfall = o; reaches = g.reaches }
 
@@ -43,5 +44,6 @@ lay_checks g places tail head q =
 abbrev pub laid_row : ℕ → ℕ → ℕ → Row
 laid_row tail head q = record { tail = tail; head = head; limit = q; carried = 0 }
 
+-- the network with one reach more, behind the others
 abbrev pub with_reach : Net → ℕ → ℕ → ℕ → Net
 with_reach g tail head q = with_reaches g (g.reaches ++ (arc_of_row (laid_row tail head q) ∷ []))

@@ -1,8 +1,8 @@
 -- The rows of a table that hold reaches.
-use Rattle.std.specs.Prelude.{ℕ, ◌<◌, ◌≤◌, min, List, length, slice_index_or}
-use Rattle.flow.specs.Bounds.{highest_limit}
-use Rattle.flow.specs.Net.{Arc, Net, Joined}
+use Rattle.std.specs.Prelude.{ℕ, ◌<◌, min, List, length, slice_index_or}
+use Rattle.flow.specs.Net.{Net, FairArc}
 use Rattle.network.specs.declared.row.Row.{Row}
+use Rattle.network.specs.declared.size.Size.{Size}
 use Rattle.network.specs.Rows.{no_row, arc_of_row, arcs_of}
 use Rattle.table.specs.Bounds.{most_rows}
 
@@ -10,14 +10,11 @@ use Rattle.table.specs.Bounds.{most_rows}
 abbrev pub places_in : List Row → ℕ
 places_in rows = min (length rows) most_rows
 
--- the network in the first `used` rows of a table
-abbrev pub net_in : List Row → ℕ → ℕ → ℕ → ℕ → Net
-net_in rows used n i o = record { junctions = n; intake = i; outfall = o; reaches = arcs_of rows used }
+-- the network of a size in the first rows of a table
+abbrev pub net_in : List Row → Size → Net
+net_in rows size =
+    record { junctions = size.junctions; intake = size.intake; outfall = size.outfall; reaches = arcs_of rows size.reaches }
 
--- a reach that may be in a network of n junctions
-abbrev pub FairArc : ℕ → Arc → Type 0
-FairArc n r = Joined n r × (r.carried ≤ r.limit) × (r.limit ≤ highest_limit)
-
--- each of the first `used` rows holds such a reach
+-- each of the first `used` rows holds a reach that may be in a network of n junctions
 abbrev pub FairRows : List Row → ℕ → ℕ → Type 0
 FairRows rows used n = (k : ℕ) → k < used → FairArc n (arc_of_row (slice_index_or rows k no_row))

@@ -1,26 +1,23 @@
-ghost use Rattle.std.specs.Prelude.{◌≡◌, ◌<◌, ◌≤◌, length, ◌≢◌};
+ghost use Rattle.std.specs.Prelude.{◌<◌, ◌≤◌, length, ◌≢◌};
 ghost use Rattle.table.specs.Bounds.{most_drafted, most_rows};
 ghost use Rattle.table.specs.Laid.{FairRows};
 
-use network::Row;
+use network::{Row, Size};
 
 pub mod calls;
 
-// A network that is still being laid, in the first `used` rows of a lent table. Whatever the other rows hold, it
-// keeps to the bounds of a network at all times, so that it can be commissioned at any time.
+// A network that is still being laid, in the first rows of a lent table: as many as its size has reaches. Whatever the
+// other rows hold, it keeps to the bounds of a network at all times, so that it can be commissioned at any time.
 #[derive(Drop)]
 pub struct Draft<'a> {
-    rows: &'a mut [Row],
-    used: usize,
-    junctions: u16,
-    intake: u16,
-    outfall: u16,
-    ghost within: { used ≤ length rows.now },
-    ghost few: { used ≤ most_rows },
-    ghost two: { 2 ≤ junctions },
-    ghost many: { junctions ≤ most_drafted },
-    ghost inside: { intake < junctions },
-    ghost outside: { outfall < junctions },
-    ghost differ: { intake ≢ outfall },
-    ghost fair: { FairRows rows.now used junctions },
+    pub(crate) rows: &'a mut [Row],
+    pub(crate) size: Size,
+    ghost within: { size.reaches ≤ length rows.now },
+    ghost few: { size.reaches ≤ most_rows },
+    ghost two: { 2 ≤ size.junctions },
+    ghost many: { size.junctions ≤ most_drafted },
+    ghost inside: { size.intake < size.junctions },
+    ghost outside: { size.outfall < size.junctions },
+    ghost differ: { size.intake ≢ size.outfall },
+    ghost fair: { FairRows rows.now size.reaches size.junctions },
 }

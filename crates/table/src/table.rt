@@ -1,14 +1,9 @@
-use network::Row;
+use crate::draft::Draft;
 
 pub mod calls;
 
-// The bottom network, in the first `used` rows of a lent table. What is known of it stands in `TableFits`, and not in
-// the type, so that layers may hold a table by value.
+// The bottom network: a draft that has been commissioned. It is kept in the draft's rows, and no more is laid in them.
 #[derive(Drop)]
 pub struct Table<'a> {
-    pub(crate) rows: &'a mut [Row],
-    pub(crate) used: usize,
-    pub(crate) junctions: u16,
-    pub(crate) intake: u16,
-    pub(crate) outfall: u16,
+    pub(crate) laid: Draft<'a>,
 }

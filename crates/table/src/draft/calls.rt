@@ -3,12 +3,12 @@ ghost use Rattle.std.specs.Prelude.{◌≡◌, length, slice_set};
 ghost use Rattle.refusal.specs.Checks.{Judged, afterwards};
 ghost use Rattle.table.specs.Laid.{places_in};
 ghost use Rattle.table.specs.Drafting.{draft_net, fresh, shape_checks, with_shape, lay_checks, with_reach, laid_row};
-ghost use Rattle.table.specs.Tables.{table_net, TableFits};
+ghost use Rattle.table.specs.Tables.{table_net};
 
 use crate::draft::Draft;
 use crate::table::Table;
-use network::Row;
 use network::bounds::HIGHEST_SETTING;
+use network::{Row, Size};
 use refusal::{Fault, Part, Refusal};
 
 // The most junctions that a shape may have, and the most rows of a table that are used.
@@ -25,10 +25,12 @@ impl<'a> Draft<'a> {
     {
         Draft {
             rows,
-            used: 0,
-            junctions: 2,
-            intake: 0,
-            outfall: 1,
+            size: Size {
+                junctions: 2,
+                reaches: 0,
+                intake: 0,
+                outfall: 1,
+            },
         }
     }
 
@@ -49,12 +51,15 @@ impl<'a> Draft<'a> {
         if intake == outfall {
             return Err(Refusal::new(Fault::Same, Part::Draft));
         }
-        if self.used > 0 {
+        if self.size.reaches > 0 {
             return Err(Refusal::new(Fault::TooLate, Part::Draft));
         }
-        self.junctions = n;
-        self.intake = intake;
-        self.outfall = outfall;
+        self.size = Size {
+            junctions: n,
+            intake,
+            outfall,
+            ..self.size
+        };
         Ok(())
     }
 
@@ -69,7 +74,7 @@ impl<'a> Draft<'a> {
             self.old.rows.now }
         ensures lender { self.new.rows.ghost_name ≡ self.old.rows.ghost_name }
     {
-        if tail >= self.junctions || head >= self.junctions {
+        if tail >= self.size.junctions || head >= self.size.junctions {
             return Err(Refusal::new(Fault::NoJunction, Part::Draft));
         }
         if tail == head {
@@ -78,39 +83,25 @@ impl<'a> Draft<'a> {
         if limit > HIGHEST_SETTING {
             return Err(Refusal::new(Fault::LimitTooHigh, Part::Draft));
         }
-        if self.used >= self.rows.len().min(MOST_ROWS) {
+        if self.size.reaches >= self.rows.len().min(MOST_ROWS) {
             return Err(Refusal::new(Fault::NoPlace, Part::Draft));
         }
-        self.rows[self.used] = Row {
+        self.rows[self.size.reaches] = Row {
             tail,
             head,
             limit,
             carried: 0,
         };
-        self.used += 1;
+        self.size.reaches += 1;
         Ok(())
     }
 
     // Uses the draft up and gives the network that it has come to.
     pub fn commission(self) -> Table<'a>
-        ensures fit { TableFits result }
         ensures net { table_net result ≡ draft_net self.entry }
-        ensures rows { result.rows.now ≡ self.entry.rows.now }
-        ensures lender { result.rows.ghost_name ≡ self.entry.rows.ghost_name }
+        ensures rows { result.laid.rows.now ≡ self.entry.rows.now }
+        ensures lender { result.laid.rows.ghost_name ≡ self.entry.rows.ghost_name }
     {
-        let Draft {
-            rows,
-            used,
-            junctions,
-            intake,
-            outfall,
-        } = self;
-        Table {
-            rows,
-            used,
-            junctions,
-            intake,
-            outfall,
-        }
+        Table { laid: self }
     }
 }
