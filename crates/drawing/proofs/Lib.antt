@@ -1,4 +1,4 @@
-pub mod Fields
+pub mod Front
 pub mod Found
 pub mod Onward
 pub mod Spelled

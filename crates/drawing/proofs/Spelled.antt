@@ -1,11 +1,12 @@
 -- The bytes that a reader passes over spell the record that it answers; and so for a whole input.
-use Rattle.std.proofs.Common.{◌≡◌, ℕ, zero, suc, ◌+◌, ◌≤◌, eqb, ltb, List, [], ◌∷◌, length, take, drop, Some, None, Ok, Err, Option, sym, refl, ap, ◌∙◌, subst, one-add, arith}
+use Rattle.std.proofs.Common.{◌≡◌, ℕ, zero, suc, ◌+◌, ◌≤◌, eqb, ltb, List, [], ◌∷◌, length, take, drop, Some, None, Ok, Err, Option, sym, refl, ap, ◌∙◌, subst, one-add, sum, arith}
 use Rattle.std.proofs.lemmas.List.{drop-drop, length-drop}
+use Rattle.std.proofs.lemmas.List.Sums.{sum_by-cons}
 use Rattle.std.proofs.lemmas.Bool.{eqb-true, cond_both}
 use Rattle.drawing.specs.declared.kind.Kind.{Kind}
 use Rattle.drawing.specs.declared.kind.Kind.TheVariants as k
 use Rattle.drawing.specs.Numbers.{number_in}
-use Rattle.drawing.specs.Kinds.{letter_of, widths, sum, body_of, length_of}
+use Rattle.drawing.specs.Kinds.{letter_of, widths, body_of, length_of}
 use Rattle.drawing.specs.Records.{stated, spelt}
 use Rattle.drawing.specs.Reading.{State, start, Answer, too_long, Verdict, judged, told, step}
 use Rattle.drawing.specs.Ahead.{Drawn, refused, drawn_from, drawn, records_left}
@@ -28,6 +29,7 @@ fields [] [] bs rest i h e m = ap (λ (n : ℕ). drop n bs) (omega arith) ∙ e
 fields [] (v ∷ vs) bs rest i h e m = m
 fields (w ∷ ws) [] bs rest i h e m = m
 fields (w ∷ ws) (v ∷ vs) bs rest i h e m =
+    let both : sum (w ∷ ws) ≡ w + sum ws = sum_by-cons (λ n. n) w ws in
     let on = fields ws vs bs rest (i + w) (omega arith) (ap (λ (n : ℕ). drop n bs) (omega arith) ∙ e) m.1 in
     (simp length-drop (omega arith), (m.0, subst (λ (l : List ℕ). Fields ws vs l rest) (sym (drop-drop w i bs)) on))
 
@@ -109,12 +111,19 @@ tells_told (Ok (Some p)) input (b ∷ bs) at e w =
     let found-again = subst (λ (l : List ℕ). Kept (spelt p.0 l at.place) input) e (kept p.0 input at.place whole) in
     (moved, (subst (λ (l : List ℕ). Spells a l (drop (at.place + (1 + n)) input)) (sym e) spelled, found-again))
 
-pub tells : (input : List ℕ) (at after : State) (a : Answer) → (a, after) ≡ step input at
+-- an answer and a place that one call gives
+pub tells_at : (input : List ℕ) (at : State) (a : Answer) (q : ℕ) → a ≡ (step input at).0 → q ≡ (step input at).1.place
+    → Tells a input at.place q
+tells_at input at a q said moved =
+    let bs = drop at.place input in
+    let told = tells_told (judged bs at.stage at.junctions) input bs at refl (found bs at.stage at.junctions) in
+    subst (λ (x : Answer). Tells x input at.place q) (sym said)
+    (subst (λ (p : ℕ). Tells (step input at).0 input at.place p) (sym moved) told)
+
+tells : (input : List ℕ) (at after : State) (a : Answer) → (a, after) ≡ step input at
     → Tells a input at.place after.place
 tells input at after a e =
-    let bs = drop at.place input in
-    subst (λ (x : Answer × State). Tells x.0 input at.place x.1.place) (sym e)
-    (tells_told (judged bs at.stage at.junctions) input bs at refl (found bs at.stage at.junctions))
+    tells_at input at a after.place (ap (λ (x : Answer × State). x.0) e) (ap (λ (x : Answer × State). x.1.place) e)
 
 -- ---- a whole run
 

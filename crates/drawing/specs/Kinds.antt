@@ -1,5 +1,7 @@
 -- The kinds of record: their letters, their fields, and the order that they come in.
-use Rattle.std.specs.Prelude.{ℕ, ◌+◌, Bool, true, false, cond, List, [], ◌∷◌, Some, None, Option, ◌==◌}
+use Rattle.std.specs.Prelude.{◌≡◌, ℕ, ◌+◌, Bool, true, false, cond, List, [], ◌∷◌, Some, None, Option, Result, ok_or, ◌==◌, sum}
+use Rattle.refusal.specs.declared.Fault.{Fault}
+use Rattle.refusal.specs.declared.Fault.TheVariants.{ByteNotAllowed}
 use Rattle.drawing.specs.declared.kind.Kind.{Kind}
 use Rattle.drawing.specs.declared.kind.Kind.TheVariants as k
 use Rattle.drawing.specs.declared.kind.Stage.{Stage}
@@ -37,6 +39,10 @@ kind_among (kind ∷ kinds) b = cond (b == letter_of kind) (Some kind) (kind_amo
 abbrev pub kind_of : ℕ → Option Kind
 kind_of b = kind_among every_kind b
 
+-- a byte is read as the kind whose letter it is, or refused where it is a letter of none
+abbrev pub Decodes : ℕ → Result Kind Fault → Type 0
+Decodes b r = r ≡ ok_or (kind_of b) ByteNotAllowed
+
 -- ---- fields
 
 -- the widths in bytes of the fields that follow the letter
@@ -53,11 +59,6 @@ widths k.Settle = 4 ∷ []  -- the budget
 widths k.Drain = []
 widths k.Bottleneck = []
 widths k.Tally = []
-
--- the sum of the numbers
-abbrev pub sum : List ℕ → ℕ
-sum [] = 0
-sum (n ∷ ns) = n + sum ns
 
 -- the bytes that follow the letter of a record
 abbrev pub body_of : Kind → ℕ

@@ -1,5 +1,5 @@
 -- One call of a reader: what it answers, and where the reader then stands.
-use Rattle.std.specs.Prelude.{ℕ, ◌+◌, ◌≤◌, cond, List, [], ◌∷◌, length, drop, Some, None, Ok, Err, Option, Result, nat_lt}
+use Rattle.std.specs.Prelude.{◌≡◌, ℕ, ◌+◌, ◌≤◌, cond, List, [], ◌∷◌, length, take, drop, Some, None, Ok, Err, Option, Result, nat_lt}
 use Rattle.refusal.specs.declared.Fault.{Fault}
 use Rattle.refusal.specs.declared.Fault.TheVariants.{ByteNotAllowed, EndsEarly, InputTooLong}
 use Rattle.refusal.specs.declared.Refusal.{Refusal}
@@ -9,6 +9,7 @@ use Rattle.drawing.specs.declared.kind.Kind.{Kind}
 use Rattle.drawing.specs.declared.kind.Stage.{Stage}
 use Rattle.drawing.specs.declared.kind.Stage.TheVariants as s
 use Rattle.drawing.specs.declared.record.Record.{Record}
+use Rattle.drawing.specs.declared.record.RawRecord.{RawRecord}
 use Rattle.drawing.specs.declared.reader.Reader.{Reader}
 use Rattle.drawing.specs.Kinds.{kind_of, length_of, follows, ends}
 use Rattle.drawing.specs.Records.{Said, said, spelt, junctions_after, wrong}
@@ -56,6 +57,18 @@ too_long = refusal_at InputTooLong 0
 abbrev pub Verdict : Type 0
 Verdict = Result (Option (Kind × Stage)) Fault
 
+-- what the checks of the code find, as a verdict
+abbrev pub verdict_of : Result (Option (RawRecord × Stage)) Fault → Verdict
+verdict_of (Err f) = Err f
+verdict_of (Ok None) = Ok None
+verdict_of (Ok (Some p)) = Ok (Some (p.0.kind, p.1))
+
+-- a record that the checks of the code find is the bytes at the front of bs
+abbrev pub FoundIn : Result (Option (RawRecord × Stage)) Fault → List ℕ → Type 0
+FoundIn (Err f) bs = Unit {0}
+FoundIn (Ok None) bs = Unit {0}
+FoundIn (Ok (Some p)) bs = p.0.bytes.now ≡ take (length_of p.0.kind) bs
+
 -- fourth, the fields of the record are right
 abbrev pub fielded : Option Fault → Kind × Stage → Verdict
 fielded None p = Ok (Some p)
@@ -102,6 +115,10 @@ told (Ok (Some p)) bs at = (Ok (Some (spelt p.0 bs at.place)), passed p bs at)
 -- one call of a reader that stands there
 abbrev pub step : List ℕ → State → Answer × State
 step input at = told (judged (drop at.place input) at.stage at.junctions) (drop at.place input) at
+
+-- the bytes that a reader of the code has not passed
+abbrev pub rest_of : Reader → List ℕ
+rest_of r = drop r.place r.input.now
 
 -- the next call of a reader of the code
 abbrev pub step_of : Reader → Answer × State

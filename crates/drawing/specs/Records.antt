@@ -1,5 +1,6 @@
 -- What the bytes of one record say, and what can be wrong in them.
-use Rattle.std.specs.Prelude.{ℕ, ◌+◌, Bool, true, false, cond, List, [], ◌∷◌, Some, None, Option, ◌==◌, nat_le, nat_lt}
+use Rattle.std.specs.Prelude.{ℕ, ◌+◌, Bool, false, cond, List, Some, None, Option, ◌==◌, nat_le, nat_lt}
+use Rattle.std.specs.List.{list_all}
 use Rattle.refusal.specs.declared.Fault.{Fault}
 use Rattle.refusal.specs.declared.Fault.TheVariants.{NoJunction, ByteNotAllowed}
 use Rattle.drawing.specs.declared.kind.Kind.{Kind}
@@ -63,8 +64,7 @@ visible b = cond (nat_le 0x21 b) (nat_le b 0x7e) false
 
 -- whether each byte may
 abbrev pub printed : List ℕ → Bool
-printed [] = true
-printed (b ∷ bs) = cond (visible b) (printed bs) false
+printed bs = list_all visible bs
 
 -- what is wrong in the record of a name, in a drawing of n junctions: first the junction, then the name
 abbrev pub wrong_name : List ℕ → ℕ → Option Fault

@@ -1,6 +1,8 @@
 // The kinds of record, and the order that they come in.
 ghost use Rattle.std.specs.Prelude.{◌≡◌};
-ghost use Rattle.drawing.specs.Kinds.{kind_of, length_of, follows, ends};
+ghost use Rattle.drawing.specs.Kinds.{Decodes, length_of, follows, ends};
+
+use refusal::Fault;
 
 // What a record is.
 #[derive(Clone, Copy, PartialEq, Eq, Debug)]
@@ -34,28 +36,32 @@ pub enum Stage {
     Commands,
 }
 
-impl Kind {
-    // The kind whose letter this is.
-    pub fn of(letter: u8) -> Option<Kind>
-        ensures { result ≡ kind_of letter }
-    {
+// The kind whose letter this is.
+impl TryFrom<u8> for Kind {
+    type Error = Fault;
+
+    ghost try_from_gives = { Decodes };
+
+    fn try_from(letter: u8) -> Result<Kind, Fault> {
         match letter {
-            b'H' => Some(Kind::Shape),
-            b'N' => Some(Kind::Name),
-            b'R' => Some(Kind::Reach),
-            b'E' => Some(Kind::End),
-            b'C' => Some(Kind::Chamber),
-            b'I' => Some(Kind::Source),
-            b'O' => Some(Kind::Sink),
-            b'L' => Some(Kind::Limit),
-            b'S' => Some(Kind::Settle),
-            b'D' => Some(Kind::Drain),
-            b'B' => Some(Kind::Bottleneck),
-            b'T' => Some(Kind::Tally),
-            _ => None,
+            b'H' => Ok(Kind::Shape),
+            b'N' => Ok(Kind::Name),
+            b'R' => Ok(Kind::Reach),
+            b'E' => Ok(Kind::End),
+            b'C' => Ok(Kind::Chamber),
+            b'I' => Ok(Kind::Source),
+            b'O' => Ok(Kind::Sink),
+            b'L' => Ok(Kind::Limit),
+            b'S' => Ok(Kind::Settle),
+            b'D' => Ok(Kind::Drain),
+            b'B' => Ok(Kind::Bottleneck),
+            b'T' => Ok(Kind::Tally),
+            _ => Err(Fault::ByteNotAllowed),
         }
     }
+}
 
+impl Kind {
     // The bytes of a record of this kind, its letter included.
     pub fn length(self) -> usize
         ensures { result ≡ length_of self }

@@ -1,19 +1,20 @@
 // A reader over the bytes of a drawing, which gives one record a call.
-ghost use Rattle.std.specs.Prelude.{◌≡◌, ◌<◌, ◌≤◌, length, drop, Ok, Err};
-ghost use Rattle.drawing.specs.Reading.{judged, Whole, step_of, state_of, answer_of, start, too_long, Within, most_bytes};
+ghost use Rattle.std.specs.Prelude.{◌≡◌, ◌<◌, ◌≤◌, length, MatchResult};
+ghost use Rattle.drawing.specs.Reading.{judged, verdict_of, Whole, FoundIn, rest_of, step_of, state_of, answer_of, start, too_long, Within, most_bytes};
 ghost use Rattle.drawing.specs.Ahead.{ahead, drawn, refused, spoken, Leaves};
 ghost use Rattle.drawing.specs.declared.kind.Stage.TheVariants as stages;
 ghost use Rattle.drawing.specs.Order.{InOrder};
 ghost use Rattle.drawing.specs.Spelling.{Covers, Tells};
 
 use crate::kind::{Kind, Stage};
-use crate::record::{Record, find_wrong};
+use crate::record::{RawRecord, Record};
 use refusal::{Fault, Part, Refusal};
 
 // The most bytes that an input may have.
 pub const MOST_BYTES: usize = 65_536;
 
-// A reader, and how far it has come in its input.
+// A reader, and how far it has come in its input. (That `place` is within it stands in the clause `within` of `next`, and
+// not in a ghost field: the type of a desk, which has a reader, over a network with a `&mut` would get no proof.)
 #[derive(Clone, Copy)]
 pub struct Reader<'a> {
     input: &'a [u8],
@@ -24,42 +25,13 @@ pub struct Reader<'a> {
     junctions: u16,
 }
 
-// The kind of the record at the front of `bs` and the stage after it, nothing at an allowed end, or the first fault.
-fn judge(bs: &[u8], stage: Stage, junctions: u16) -> Result<Option<(Kind, Stage)>, Fault>
-    ensures value { result ≡ judged bs.now stage junctions }
-    ensures whole { Whole result bs.now }
-{
-    if bs.len() == 0 {
-        return if stage.may_end() {
-            Ok(None)
-        } else {
-            Err(Fault::EndsEarly)
-        };
-    }
-    let Some(kind) = Kind::of(bs[0]) else {
-        return Err(Fault::ByteNotAllowed);
-    };
-    let Some(next) = stage.after(kind) else {
-        return Err(Fault::ByteNotAllowed);
-    };
-    if bs.len() < kind.length() {
-        return Err(Fault::EndsEarly);
-    }
-    match find_wrong(kind, bs, junctions) {
-        Some(fault) => Err(fault),
-        None => Ok(Some((kind, next))),
-    }
-}
-
 impl<'a> Reader<'a> {
     // A reader at the start of the input, which is refused where it is too long.
+    #[tactic(auto, using(crate::proofs::Spelled::covers, crate::proofs::Ordered::in_order), unfolding(crate::specs::Ahead::drawn))]
     pub fn open(input: &'a [u8]) -> Result<Reader<'a>, Refusal>
-        ensures long { elim result [
-          | Ok _ ↦ length input.now ≤ most_bytes
-          | Err _ ↦ most_bytes < length input.now
-        ] }
-        ensures ahead { elim result [ Ok o ↦ ahead o ≡ drawn input.now | Err e ↦ refused e ≡ drawn input.now ] }
-        ensures state { elim result [ Ok o ↦ (o.input ≡ input.entry) × (state_of o ≡ start) | Err e ↦ e ≡ too_long ] }
+        ensures long { MatchResult result (λ _. length input.now ≤ most_bytes) (λ _. most_bytes < length input.now) }
+        ensures ahead { MatchResult result (λ o. ahead o ≡ drawn input.now) (λ e. refused e ≡ drawn input.now) }
+        ensures state { MatchResult result (λ o. (o.input ≡ input.entry) × (state_of o ≡ start)) (λ e. e ≡ too_long) }
         ensures covers { Covers (drawn input.now) input.now 0 }
         ensures order { InOrder stages.Start (drawn input.now) }
     {
@@ -76,13 +48,31 @@ impl<'a> Reader<'a> {
 
     // The bytes from the next record on, if there are any.
     fn rest(&self) -> &'a [u8]
-        ensures { result.now ≡ drop self.now.place self.now.input.now }
+        ensures { result.now ≡ rest_of self.now }
     {
-        if self.place < self.input.len() {
-            &self.input[self.place..]
-        } else {
-            &[]
-        }
+        self.input.get(self.place..).unwrap_or(&[])
+    }
+
+    // The next record and the stage after it, nothing at an allowed end, or the first fault.
+    fn judge(&self) -> Result<Option<(RawRecord<'a>, Stage)>, Fault>
+        ensures value { verdict_of result ≡ judged (rest_of self.now) self.now.stage self.now.junctions }
+        ensures whole { Whole (verdict_of result) (rest_of self.now) }
+        ensures bytes { FoundIn result (rest_of self.now) }
+    {
+        let rest = self.rest();
+        let Some(letter) = rest.first() else {
+            return if self.stage.may_end() {
+                Ok(None)
+            } else {
+                Err(Fault::EndsEarly)
+            };
+        };
+        let kind = Kind::try_from(*letter)?;
+        let stage = self.stage.after(kind).ok_or(Fault::ByteNotAllowed)?;
+        let bytes = rest.get(..kind.length()).ok_or(Fault::EndsEarly)?;
+        let raw = RawRecord { kind, bytes };
+        raw.check(self.junctions)?;
+        Ok(Some((raw, stage)))
     }
 
     // The next record, or nothing at the end of the drawing.
@@ -94,18 +84,14 @@ impl<'a> Reader<'a> {
         ensures within { Within self.old → Within self.new }
         ensures tells { Tells (answer_of result) self.old.input.now self.old.place self.new.place }
     {
-        let bs = self.rest();
-        match judge(bs, self.stage, self.junctions) {
+        match self.judge() {
             Err(fault) => Err(Refusal::new(fault, Part::Reader).at(self.place)),
             Ok(None) => Ok(None),
-            Ok(Some((kind, stage))) => {
-                let record = Record::read(kind, bs, self.place);
-                *self = Reader {
-                    input: self.input,
-                    place: self.place + kind.length(),
-                    stage,
-                    junctions: record.junctions_after(self.junctions),
-                };
+            Ok(Some((raw, stage))) => {
+                let record = raw.read(self.place);
+                self.place += raw.bytes.len();
+                self.stage = stage;
+                self.junctions = record.junctions_after(self.junctions);
                 Ok(Some(record))
             }
         }

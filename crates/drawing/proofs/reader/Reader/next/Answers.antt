@@ -1,74 +1,41 @@
-use Rattle.std.proofs.Common.{◌≡◌, ◌+◌, ◌≤◌, length, Some, None, Ok, Err, refl, ap, arith, length-drop, rules}
-use Rattle.drawing.specs.Kinds.{length_of}
+use Rattle.std.proofs.Common.{Some, None, Ok, Err, ap, rules}
 use Rattle.drawing.specs.Records.{said}
-use Rattle.drawing.specs.Reading.{State, Answer, state_of, step}
+use Rattle.drawing.specs.Reading.{state_of}
 use Rattle.drawing.specs.Ahead.{records_left}
+use Rattle.drawing.proofs.Front.{spelt_front}
 use Rattle.drawing.proofs.Onward.{onward}
-use Rattle.drawing.proofs.Spelled.{tells}
+use Rattle.drawing.proofs.Spelled.{tells_at}
 use Rattle.drawing.proofs.reader.Reader.next.Goals as goal
 
--- the record is there whole, so its end lies within the input
-pub read-record-requires : goal.read-record-requires
-read-record-requires c =
+pub returns-in-Err-clause-ahead : goal.returns-in-Err-clause-ahead
+returns-in-Err-clause-ahead c =
     let here = c.args.self.now in
-    let there : length_of c.in-Ok-Some.kind ≤ length c.rest-bs.result.now = search rules in
-    record {
-      within = there;
-      fits = omega (arith, ap length c.rest-bs.ensures, length-drop here.place here.input.now);
-    }
+    onward here.input.now (state_of here) (state_of here) (Err c.at.result) (search rules)
 
-pub overflow_add-self : goal.overflow_add-self
-overflow_add-self c =
+pub returns-in-Ok-None-clause-ahead : goal.returns-in-Ok-None-clause-ahead
+returns-in-Ok-None-clause-ahead c =
     let here = c.args.self.now in
-    let there : length_of c.in-Ok-Some.kind ≤ length c.rest-bs.result.now = search rules in
-    omega (arith, ap length c.rest-bs.ensures, length-drop here.place here.input.now, c.length.ensures)
+    onward here.input.now (state_of here) (state_of here) (Ok None) (search rules)
 
-pub returns-in-Err : goal.returns-in-Err
-returns-in-Err c =
+pub returns-in-Ok-None-clause-tells : goal.returns-in-Ok-None-clause-tells
+returns-in-Ok-None-clause-tells c =
     let here = c.args.self.now in
-    let a : Answer = Err c.at.result in
-    let told : (a, state_of here) ≡ step here.input.now (state_of here) = search rules in
-    record {
-      input = refl;
-      answer = told;
-      ahead = onward here.input.now (state_of here) (state_of here) a told;
-      leaves = refl;
-      within = λ h. h;
-      tells = tells here.input.now (state_of here) (state_of here) a told;
-    }
+    tells_at here.input.now (state_of here) (Ok None) here.place (search rules) (search rules)
 
-pub returns-in-Ok-None : goal.returns-in-Ok-None
-returns-in-Ok-None c =
-    let here = c.args.self.now in
-    let a : Answer = Ok None in
-    let told : (a, state_of here) ≡ step here.input.now (state_of here) = search rules in
-    record {
-      input = refl;
-      answer = told;
-      ahead = onward here.input.now (state_of here) (state_of here) a told;
-      leaves = refl;
-      within = λ h. h;
-      tells = tells here.input.now (state_of here) (state_of here) a told;
-    }
+pub returns-in-Ok-Some-clause-answer : goal.returns-in-Ok-Some-clause-answer
+returns-in-Ok-Some-clause-answer c = search (rules, spelt_front)
 
-pub returns-in-Ok-Some : goal.returns-in-Ok-Some
-returns-in-Ok-Some c =
+pub returns-in-Ok-Some-clause-ahead : goal.returns-in-Ok-Some-clause-ahead
+returns-in-Ok-Some-clause-ahead c =
     let here = c.args.self.now in
-    let a : Answer = Ok (Some (said c.read-record.result)) in
-    let after : State = record {
-      place = here.place + c.length.result;
-      stage = c.in-Ok-Some.stage;
-      junctions = c.junctions_after.result;
-    } in
-    let told : (a, after) ≡ step here.input.now (state_of here) = search rules in
-    let on = onward here.input.now (state_of here) after a told in
-    let there : length_of c.in-Ok-Some.kind ≤ length c.rest-bs.result.now = search rules in
-    let left = length-drop here.place here.input.now in
-    record {
-      input = refl;
-      answer = told;
-      ahead = on;
-      leaves = ap records_left on;
-      within = λ h. omega (arith, ap length c.rest-bs.ensures, left, c.length.ensures);
-      tells = tells here.input.now (state_of here) after a told;
-    }
+    onward here.input.now (state_of here) _ (Ok (Some (said c.read-record.result))) (search (rules, spelt_front))
+
+pub returns-in-Ok-Some-clause-leaves : goal.returns-in-Ok-Some-clause-leaves
+returns-in-Ok-Some-clause-leaves c =
+    let here = c.args.self.now in
+    ap records_left (onward here.input.now (state_of here) _ (Ok (Some (said c.read-record.result))) (search (rules, spelt_front)))
+
+pub returns-in-Ok-Some-clause-tells : goal.returns-in-Ok-Some-clause-tells
+returns-in-Ok-Some-clause-tells c =
+    let here = c.args.self.now in
+    tells_at here.input.now (state_of here) (Ok (Some (said c.read-record.result))) _ (search (rules, spelt_front)) (search rules)
