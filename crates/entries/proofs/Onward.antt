@@ -6,7 +6,7 @@ use Rattle.flow.specs.Net.{Arc, Net}
 use Rattle.chambers.specs.Entering.{chamber_checks, chamber_reach}
 use Rattle.drawing.specs.Records.{chamber}
 use Rattle.drawing.specs.Ahead.{Drawn, item}
-use Rattle.entries.specs.Located.{refusable}
+use Rattle.desk.specs.Lines.{refusable}
 use Rattle.entries.specs.Entered.{chamber_lines}
 
 pub chamber_more : (d rest : Drawn) (p j q : ℕ) (g : Net) (giver : ℕ → Part) (own more : List Arc) →

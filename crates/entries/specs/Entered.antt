@@ -14,10 +14,9 @@ use Rattle.gathering.specs.declared.role.Role.TheVariants.{Source, Sink}
 use Rattle.gathering.specs.Entering.{Feeders, no_feeders, listed, with_feeder, feeder, gather_checks}
 use Rattle.drawing.specs.Records.{Said, shape, name, reach, table_end, chamber, source, sink, limit, settle, drain, bottleneck, tally}
 use Rattle.drawing.specs.Ahead.{Drawn, item, end, refused}
-use Rattle.desk.specs.Lines.{Lines}
+use Rattle.desk.specs.Lines.{Lines, refusable}
 use Rattle.desk.specs.Commands.{asked}
 use Rattle.desk.specs.Answering.{opened_lines}
-use Rattle.entries.specs.Located.{refusable}
 
 -- an entry of a source or a sink: its role, its junction, and the limit that it states, if it states one
 pub record Feed : Type 0 where

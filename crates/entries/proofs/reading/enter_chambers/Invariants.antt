@@ -1,6 +1,5 @@
 use Rattle.std.proofs.Common.{◌≡◌}
 use Rattle.layer.specs.Keeping.{own_arcs}
-use Rattle.chambers.specs.Standing.{ChambersFits}
 use Rattle.drawing.specs.Ahead.{ahead, records_left}
 use Rattle.entries.specs.Entered.{chamber_lines}
 use Rattle.entries.proofs.reading.enter_chambers.Given as goal
@@ -8,12 +7,11 @@ use Rattle.entries.proofs.reading.enter_chambers.Given as goal
 -- what is ahead, from the chambers as they are, still gives all the lines
 abbrev pub invariant-reading : goal.invariant-reading
 invariant-reading g l =
-    let net = g.N.Network.meaning l.initial.layer.below in
-    let giver = g.N.Network.giver l.initial.layer.below in
-    ChambersFits g.N.Network.meaning g.N.Network.fits l.layer
-    × (l.layer.below ≡ l.initial.layer.below)
-    × (chamber_lines (ahead l.reader) net giver (own_arcs l.layer.own)
-    ≡ chamber_lines (ahead l.initial.reader) net giver (own_arcs l.initial.layer.own))
+    let net = g.N.Network.meaning l.initial.layer.extended.below in
+    let giver = g.N.Network.giver l.initial.layer.extended.below in
+    (l.layer.extended.below ≡ l.initial.layer.extended.below)
+    × (chamber_lines (ahead l.reader) net giver (own_arcs l.layer.extended.own)
+    ≡ chamber_lines (ahead l.initial.reader) net giver (own_arcs l.initial.layer.extended.own))
 
 abbrev pub decreases-reading : goal.decreases-reading
 decreases-reading g l = records_left (ahead l.reader)

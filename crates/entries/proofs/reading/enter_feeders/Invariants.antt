@@ -1,5 +1,5 @@
 use Rattle.std.proofs.Common.{◌≡◌}
-use Rattle.gathering.specs.Standing.{feeders_of, GatheringFits}
+use Rattle.gathering.specs.Standing.{feeders_of}
 use Rattle.drawing.specs.Ahead.{ahead, records_left}
 use Rattle.entries.specs.Entered.{feeder_lines}
 use Rattle.entries.proofs.reading.enter_feeders.Given as goal
@@ -7,10 +7,9 @@ use Rattle.entries.proofs.reading.enter_feeders.Given as goal
 -- what is ahead, from the feeders as they are, still gives all the lines
 abbrev pub invariant-reading : goal.invariant-reading
 invariant-reading g l =
-    let net = g.N.Network.meaning l.initial.layer.below in
-    let giver = g.N.Network.giver l.initial.layer.below in
-    GatheringFits g.N.Network.meaning g.N.Network.fits l.layer
-    × (l.layer.below ≡ l.initial.layer.below)
+    let net = g.N.Network.meaning l.initial.layer.extended.below in
+    let giver = g.N.Network.giver l.initial.layer.extended.below in
+    (l.layer.extended.below ≡ l.initial.layer.extended.below)
     × (feeder_lines (ahead l.reader) net giver (feeders_of l.layer)
     ≡ feeder_lines (ahead l.initial.reader) net giver (feeders_of l.initial.layer))
 
