@@ -1,4 +1,4 @@
--- A network whose first reaches are drained: one reach more, and all of them.
+-- A network whose first reaches are drained, and one reach more.
 use Rattle.std.proofs.Common.{◌≡◌, ℕ, ◌+◌, ◌<◌, ◌++◌, map, length, take, drop, ap, ◌∙◌, arith, length-append, length-drop, length-take}
 use lib.ListN.{length-map}
 use Rattle.std.proofs.lemmas.List.Edits.{map_over_more}

@@ -113,7 +113,7 @@ impl<'a, N: Network> Desk<'a, N> {
     }
 }
 
-// The lines, one after the other, up to the last.
+// A call gives the first of the lines that are left and leaves the others, or nothing where none is left, then or later.
 impl<N: Network + Drop> Iterator for Desk<'_, N> {
     type Item = Line;
 
