@@ -111,18 +111,11 @@ impl<'a, N: Network> Desk<'a, N> {
             }
         }
     }
-}
-
-// A call gives the first of the lines that are left and leaves the others, or nothing where none is left, then or later.
-impl<N: Network + Drop> Iterator for Desk<'_, N> {
-    type Item = Line;
-
-    ghost next_gives = { YieldsFirstBy line_text (rest N.meaning N.giver) };
-
-    ghost remaining = { item_count (rest N.meaning N.giver) };
 
     // The next line, or nothing where all lines were given.
-    fn next(&mut self) -> Option<Line> {
+    pub fn next_line(&mut self) -> Option<Line>
+        ensures { YieldsFirstBy line_text (rest N.meaning N.giver) self.old result self.new }
+    {
         match self.phase {
             Phase::Opening => Some(self.open()),
             Phase::Held { command, place } => {
@@ -132,5 +125,19 @@ impl<N: Network + Drop> Iterator for Desk<'_, N> {
             Phase::Commands => self.command(),
             Phase::Over => None,
         }
+    }
+}
+
+// The lines, one after the other, up to the last. An iterator can be dropped, and so its network has to be one that can;
+// `next_line` asks no such thing.
+impl<N: Network + Drop> Iterator for Desk<'_, N> {
+    type Item = Line;
+
+    ghost next_gives = { YieldsFirstBy line_text (rest N.meaning N.giver) };
+
+    ghost remaining = { item_count (rest N.meaning N.giver) };
+
+    fn next(&mut self) -> Option<Line> {
+        self.next_line()
     }
 }

@@ -1,6 +1,7 @@
 -- Every report tells the network at most once, and first.
 use Rattle.std.proofs.Common.{◌≡◌, ℕ, false, List, [], length, Some, None, Option, refl, inl, inr}
-use Rattle.std.specs.List.{AllByRecursion}
+use Rattle.std.specs.List.{All}
+use Rattle.std.proofs.lemmas.List.Elements.{All-nil, All-cons}
 use Rattle.refusal.specs.declared.Part.{Part}
 use Rattle.refusal.specs.declared.Part.TheVariants.{Network}
 use Rattle.refusal.specs.Checks.{first_of}
@@ -12,10 +13,10 @@ use Rattle.drawing.specs.Records.{shape, name, reach, table_end, chamber, source
 use Rattle.drawing.specs.Ahead.{Drawn, item, end, refused, drawn}
 use Rattle.desk.specs.declared.command.Command.{Command}
 use Rattle.desk.specs.declared.command.Command.TheVariants as command
-use Rattle.desk.specs.Lines.{Lines}
+use Rattle.desk.specs.Lines.{Lines, refusal_line, refusable}
 use Rattle.desk.specs.Commands.{Asked, ask, done, turned, asked}
 use Rattle.desk.specs.Answering.{limited, answered, command_lines, opened_lines}
-use Rattle.report.specs.Reported.{refusable, draft_lines, reported}
+use Rattle.report.specs.Reported.{draft_lines, reported}
 use Rattle.report.specs.Laws.{is_network, ToldOnce}
 
 limited_not : (o : Option (ℕ × Part)) (k q p : ℕ) (g : Net) → is_network (limited o k q p g).0 ≡ false
@@ -27,15 +28,20 @@ answered_not (command.Limit k q) p giver g = limited_not (first_of (change_check
 answered_not command.Drain p giver g = refl
 answered_not command.Tally p giver g = refl
 
-commands_not : (a : Asked) (giver : ℕ → Part) (g : Net) → AllByRecursion (λ l. is_network l ≡ false) (command_lines a giver g)
-commands_not (ask c p rest) giver g = (answered_not c p giver g, commands_not rest giver (answered c p giver g).1)
-commands_not done giver g = tt
-commands_not (turned e) giver g = (refl, tt)
+-- a line that does not tell the network
+abbrev Other : List ℕ → Type 0
+Other l = is_network l ≡ false
+
+commands_not : (a : Asked) (giver : ℕ → Part) (g : Net) → All Other (command_lines a giver g)
+commands_not (ask c p rest) giver g =
+    All-cons Other (answered c p giver g).0 _ (answered_not c p giver g) (commands_not rest giver (answered c p giver g).1)
+commands_not done giver g = All-nil Other
+commands_not (turned e) giver g = All-cons Other (refusal_line e) [] refl (All-nil Other)
 
 opened_once : (a : Asked) (giver : ℕ → Part) (g : Net) → ToldOnce (opened_lines a giver g)
 opened_once (ask c p rest) giver g =
     inr (g.junctions, length g.reaches, command_lines (ask c p rest) giver g, refl, commands_not (ask c p rest) giver g)
-opened_once done giver g = inr (g.junctions, length g.reaches, [], refl, tt)
+opened_once done giver g = inr (g.junctions, length g.reaches, [], refl, All-nil Other)
 opened_once (turned e) giver g = inl (_, refl, refl)
 
 refusable_once : (o : Option (ℕ × Part)) (p : ℕ) (ls : Lines) → ToldOnce ls → ToldOnce (refusable o p ls)

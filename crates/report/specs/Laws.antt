@@ -1,6 +1,6 @@
 -- A law about every report, in the words of its reader.
 use Rattle.std.specs.Prelude.{◌≡◌, ℕ, Bool, true, false, cond, ◌⊎◌, List, [], ◌∷◌, codes, ◌==◌}
-use Rattle.std.specs.List.{AllByRecursion}
+use Rattle.std.specs.List.{All}
 use Rattle.desk.specs.Lines.{Lines, network_line}
 
 -- whether a line begins with these bytes
@@ -19,4 +19,4 @@ is_refusal l = starts_with (codes "refused ") l
 abbrev pub ToldOnce : Lines → Type 0
 ToldOnce ls =
     ((l : List ℕ) × (ls ≡ l ∷ []) × (is_refusal l ≡ true))
-    ⊎ ((n m : ℕ) × (answers : Lines) × (ls ≡ network_line n m ∷ answers) × AllByRecursion (λ l. is_network l ≡ false) answers)
+    ⊎ ((n m : ℕ) × (answers : Lines) × (ls ≡ network_line n m ∷ answers) × All (λ l. is_network l ≡ false) answers)

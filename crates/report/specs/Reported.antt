@@ -1,20 +1,14 @@
 -- What is printed for a drawing: which lines, in their order, for every input.
-use Rattle.std.specs.Prelude.{ℕ, List, [], ◌∷◌, Some, None, Option}
-use Rattle.refusal.specs.declared.Part.{Part}
+use Rattle.std.specs.Prelude.{ℕ, List, [], ◌∷◌}
 use Rattle.refusal.specs.declared.Part.TheVariants.{Reader, Network}
 use Rattle.refusal.specs.Checks.{first_of}
 use Rattle.flow.specs.Net.{Net}
 use Rattle.table.specs.Drafting.{fresh, shape_checks, with_shape, lay_checks, with_reach}
 use Rattle.drawing.specs.Records.{shape, name, reach, table_end, chamber, source, sink, limit, settle, drain, bottleneck, tally}
 use Rattle.drawing.specs.Ahead.{Drawn, item, end, refused, drawn}
-use Rattle.desk.specs.Lines.{Lines, refused_line, refusal_line}
+use Rattle.desk.specs.Lines.{Lines, refused_line, refusal_line, refusable}
 use Rattle.desk.specs.Commands.{asked}
 use Rattle.desk.specs.Answering.{opened_lines}
-
--- a record of the table at the place p: where one of the checks applies, its refusal ends the program
-abbrev pub refusable : Option (ℕ × Part) → ℕ → Lines → Lines
-refusable (Some r) p ls = refused_line r.0 p r.1 ∷ []
-refusable None p ls = ls
 
 -- a record that has no place in the table. (The reader gives none, and no end before that of the table: `InOrder` in crate
 -- drawing. These cases are here since a definition speaks of every list of records.)

@@ -14,14 +14,13 @@ const ROWS: usize = 1024;
 
 // Prints the lines that a desk has still to give.
 fn tell<N: Network + Drop, W: fmt::Write>(
-    mut desk: Desk<'_, N>,
+    desk: Desk<'_, N>,
     f: &mut fmt::Formatter<W>,
 ) -> fmt::Result
-    requires { N.Network.fits desk.network }
     ensures { WritesOnOk W.Write.write_str_gives f.old result
         (text (rest N.Network.meaning N.Network.giver desk.entry)) f.new }
 {
-    while let Some(line) = desk.next() {
+    for line in desk {
         writeln!(f, "{line}")?;
     }
     Ok(())
@@ -35,12 +34,7 @@ impl fmt::Display for Report<'_> {
     ghost output = { λ r. Some (text (reported 1024 r.0.now)) };
 
     fn fmt<W: fmt::Write>(&self, f: &mut fmt::Formatter<W>) -> fmt::Result {
-        let mut rows = [Row {
-            tail: 0,
-            head: 0,
-            limit: 0,
-            carried: 0,
-        }; ROWS];
+        let mut rows = [Row::default(); ROWS];
         match open(self.0, &mut rows) {
             Ok(desk) => tell(desk, f),
             Err(refusal) => writeln!(f, "{refusal}"),

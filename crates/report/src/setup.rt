@@ -2,30 +2,20 @@
 ghost use Rattle.std.specs.Prelude.{◌≡◌, [], ◌∷◌, length, Ok, Err, ◌≢◌};
 ghost use Rattle.table.specs.Laid.{places_in};
 ghost use Rattle.table.specs.Drafting.{draft_net};
-ghost use Rattle.table.specs.Tables.{table_net, TableFits, table_giver};
+ghost use Rattle.table.specs.Tables.{table_net, table_giver};
 ghost use Rattle.drawing.specs.Records.{said, table_end};
 ghost use Rattle.drawing.specs.Ahead.{ahead};
 ghost use Rattle.desk.specs.Lines.{refusal_line};
 ghost use Rattle.report.specs.Reported.{draft_lines, reported};
 ghost use Rattle.report.specs.Laws.{ToldOnce};
-ghost use Rattle.report.specs.Setups.{located_at, Entered, table_lines};
+ghost use Rattle.report.specs.Setups.{Entered, table_lines};
 ghost use Rattle.desk.specs.Rest.{rest};
 
 use desk::Desk;
 use drawing::{Reader, Record};
 use network::Row;
-use refusal::{Fault, Part, Refusal};
+use refusal::{Fault, Part, Refusal, located};
 use table::{Draft, Table};
-
-// The same answer, with the place of the record that was refused.
-fn located(r: Result<(), Refusal>, place: usize) -> Result<(), Refusal>
-    ensures { result ≡ located_at r place }
-{
-    match r {
-        Ok(()) => Ok(()),
-        Err(refusal) => Err(refusal.at(place)),
-    }
-}
 
 // Enters one record of the table, which is not its end, into the draft.
 fn enter(draft: &mut Draft<'_>, item: Record<'_>, place: usize) -> Result<(), Refusal>
@@ -55,20 +45,17 @@ fn lay_table(reader: &mut Reader<'_>, draft: &mut Draft<'_>) -> Result<(), Refus
 {
     'reading: loop {
         let place = reader.place();
-        let Some(item) = reader.next()? else {
-            return Err(Refusal::new(Fault::EndsEarly, Part::Reader).at(place));
-        };
-        if let Record::End = item {
-            return Ok(());
+        match reader.next()? {
+            Some(Record::End) => return Ok(()),
+            Some(item) => enter(draft, item, place)?,
+            None => return Err(Refusal::new(Fault::EndsEarly, Part::Reader).at(place)),
         }
-        enter(draft, item, place)?;
     }
 }
 
 // Reads the table of a drawing into the rows, commissions its network, and gives the desk that answers its commands;
 // or the refusal that is then the only line.
 pub fn open<'a, 't>(input: &'a [u8], rows: &'t mut [Row]) -> Result<Desk<'a, Table<'t>>, Refusal>
-    ensures fit { elim result [ Ok d ↦ TableFits d.network | Err _ ↦ Unit {0} ] }
     ensures lines { reported (places_in rows.old) input.now
         ≡ elim result [ Ok d ↦ rest table_net table_giver d | Err e ↦ refusal_line e ∷ [] ] }
     ensures once { ToldOnce (reported (places_in rows.old) input.now) }
