@@ -1,8 +1,5 @@
 // Tables, layers and calls as the dice draw them.
 ghost use Rattle.std.specs.Prelude.{◌<◌, ◌≤◌};
-ghost use Rattle.table.specs.Tables.{TableFits};
-ghost use Rattle.chambers.specs.Standing.{ChambersFits};
-ghost use Rattle.gathering.specs.Standing.{GatheringFits};
 
 use crate::dice::Dice;
 use crate::out::Out;
@@ -35,9 +32,7 @@ fn draw_amount(dice: &mut Dice) -> u32 {
 }
 
 // A table of two to six junctions and at most seven reaches.
-pub fn draw_table<'a>(dice: &mut Dice, rows: &'a mut [Row]) -> Table<'a>
-    ensures { TableFits result }
-{
+pub fn draw_table<'a>(dice: &mut Dice, rows: &'a mut [Row]) -> Table<'a> {
     let n = 2 + draw_junction(dice, 5);
     let (intake, outfall) = draw_two(dice, n);
     let mut draft = Draft::new(rows);
@@ -50,15 +45,20 @@ pub fn draw_table<'a>(dice: &mut Dice, rows: &'a mut [Row]) -> Table<'a>
     draft.commission()
 }
 
-// A layer that entries are drawn for.
-trait Layer: Network {
+// A layer over a network of type N, for which entries are drawn.
+pub trait Layer<N>: Network {
+    // The layer without an entry.
+    fn over(below: N) -> Self;
+
     // Draws an entry over a network of n junctions, enters it, and prints the answer.
-    fn draw_entry(&mut self, out: &mut Out, dice: &mut Dice, n: u16)
-        requires { Self.Network.fits self.old }
-        ensures { Self.Network.fits self.new };
+    fn draw_entry(&mut self, out: &mut Out, dice: &mut Dice, n: u16);
 }
 
-impl<N: Network> Layer for Chambers<N> {
+impl<N: Network> Layer<N> for Chambers<N> {
+    fn over(below: N) -> Chambers<N> {
+        Chambers::new(below)
+    }
+
     fn draw_entry(&mut self, out: &mut Out, dice: &mut Dice, n: u16) {
         let v = draw_junction(dice, n.saturating_add(2));
         let q = draw_amount(dice);
@@ -66,7 +66,11 @@ impl<N: Network> Layer for Chambers<N> {
     }
 }
 
-impl<N: Network> Layer for Gathering<N> {
+impl<N: Network> Layer<N> for Gathering<N> {
+    fn over(below: N) -> Gathering<N> {
+        Gathering::new(below)
+    }
+
     fn draw_entry(&mut self, out: &mut Out, dice: &mut Dice, n: u16) {
         let role = if dice.below(2) == 0 {
             Role::Source
@@ -76,17 +80,16 @@ impl<N: Network> Layer for Gathering<N> {
         let v = draw_junction(dice, n.saturating_add(1));
         let is_stated = dice.below(3) != 0;
         let q = draw_amount(dice);
-        let stated = if is_stated { Some(q) } else { None };
-        show_feeder(out, self, role, v, stated);
+        show_feeder(out, self, role, v, is_stated.then_some(q));
     }
 }
 
-// Draws fewer than `most` entries, and where there is a reach one more while it may carry.
-fn draw_entries<L: Layer>(out: &mut Out, dice: &mut Dice, layer: &mut L, n: u16, most: usize)
-    requires fit { L.Network.fits layer.old }
-    requires some { 0 < most }
-    ensures { L.Network.fits layer.new }
+// Puts a layer over a network: draws fewer than `most` entries, and where there is a reach one more while it may carry.
+pub fn draw_layer<N: Network, L: Layer<N>>(out: &mut Out, dice: &mut Dice, net: N, most: usize) -> L
+    requires { 0 < most }
 {
+    let n = net.size().junctions;
+    let mut layer = L::over(net);
     for _ in 0..dice.below(most) {
         layer.draw_entry(out, dice, n);
     }
@@ -94,39 +97,15 @@ fn draw_entries<L: Layer>(out: &mut Out, dice: &mut Dice, layer: &mut L, n: u16,
     if m > 0 {
         let k = dice.below(m);
         let amount = dice.below(2) as u32;
-        show_change(out, layer, k, Change::Carry(amount));
+        show_change(out, &mut layer, k, Change::Carry(amount));
         layer.draw_entry(out, dice, n);
-        show_change(out, layer, k, Change::Carry(0));
+        show_change(out, &mut layer, k, Change::Carry(0));
     }
-}
-
-// Puts chambers over a network.
-pub fn draw_chambers<N: Network>(out: &mut Out, dice: &mut Dice, net: N) -> Chambers<N>
-    requires { N.fits net }
-    ensures { ChambersFits N.Network.meaning N.Network.fits result }
-{
-    let n = net.size().junctions;
-    let mut layer = Chambers::new(net);
-    draw_entries(out, dice, &mut layer, n, 4);
-    layer
-}
-
-// Puts a gathering over a network.
-pub fn draw_gathering<N: Network>(out: &mut Out, dice: &mut Dice, net: N) -> Gathering<N>
-    requires { N.fits net }
-    ensures { GatheringFits N.Network.meaning N.Network.fits result }
-{
-    let n = net.size().junctions;
-    let mut layer = Gathering::new(net);
-    draw_entries(out, dice, &mut layer, n, 5);
     layer
 }
 
 // Calls carry or limit once.
-pub fn draw_call<N: Network>(out: &mut Out, dice: &mut Dice, net: &mut N)
-    requires { N.fits net.old }
-    ensures { N.fits net.new }
-{
+pub fn draw_call<N: Network>(out: &mut Out, dice: &mut Dice, net: &mut N) {
     let carries = dice.below(2) == 0;
     let k = dice.below(net.size().reaches + 1);
     let x = draw_amount(dice);

@@ -11,7 +11,6 @@ mod showing;
 mod stacking;
 mod towers;
 
-use network::Row;
 use out::Out;
 use stacking::show_stack;
 use std::io;
@@ -19,14 +18,6 @@ use towers::{show_tower_of_junctions, show_tower_of_reaches};
 
 // How many stacks are drawn.
 const STACKS: u32 = 120;
-
-// A row of a table in which no reach is laid yet.
-const BLANK: Row = Row {
-    tail: 0,
-    head: 0,
-    limit: 0,
-    carried: 0,
-};
 
 fn main(rt: HostRuntime) -> io::Result<()> {
     let mut out = Out::new(rt.alloc(), rt.stdout())?;

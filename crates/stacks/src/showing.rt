@@ -1,12 +1,10 @@
 // Calling a network, and printing what it answers.
-ghost use Rattle.chambers.specs.Standing.{ChambersFits};
-ghost use Rattle.gathering.specs.Standing.{GatheringFits};
 
 use crate::lines::{write_call, write_reach, write_size};
 use crate::out::Out;
 use chambers::Chambers;
 use gathering::{Gathering, Role};
-use network::{Change, Network, apply};
+use network::{Change, Network};
 
 fn word_of_change(change: Change) -> (&'static str, u32) {
     match change {
@@ -16,20 +14,14 @@ fn word_of_change(change: Change) -> (&'static str, u32) {
 }
 
 // Calls carry or limit.
-pub fn show_change<N: Network>(out: &mut Out, net: &mut N, k: usize, change: Change)
-    requires { N.fits net.old }
-    ensures { N.fits net.new }
-{
+pub fn show_change<N: Network>(out: &mut Out, net: &mut N, k: usize, change: Change) {
     let (word, x) = word_of_change(change);
-    let answer = apply(net, k, change);
+    let answer = net.change(k, change);
     write_call(out, word, k, Some(x), answer);
 }
 
 // Enters a chamber.
-pub fn show_chamber<N: Network>(out: &mut Out, layer: &mut Chambers<N>, v: u16, q: u32)
-    requires { ChambersFits N.Network.meaning N.Network.fits layer.old }
-    ensures { ChambersFits N.Network.meaning N.Network.fits layer.new }
-{
+pub fn show_chamber<N: Network>(out: &mut Out, layer: &mut Chambers<N>, v: u16, q: u32) {
     let answer = layer.enter(v, q);
     write_call(out, "chamber", v as usize, Some(q), answer);
 }
@@ -48,36 +40,24 @@ pub fn show_feeder<N: Network>(
     role: Role,
     v: u16,
     stated: Option<u32>,
-)
-    requires { GatheringFits N.Network.meaning N.Network.fits layer.old }
-    ensures { GatheringFits N.Network.meaning N.Network.fits layer.new }
-{
+) {
     let answer = layer.enter(role, v, stated);
     write_call(out, word_of(role), v as usize, stated, answer);
 }
 
-pub fn show_size<N: Network>(out: &mut Out, net: &N)
-    requires { N.fits net.now }
-{
+pub fn show_size<N: Network>(out: &mut Out, net: &N) {
     write_size(out, net.size());
 }
 
 // All reaches, in the order of their numbers.
-pub fn show_reaches<N: Network>(out: &mut Out, net: &N)
-    requires { N.fits net.now }
-{
+pub fn show_reaches<N: Network>(out: &mut Out, net: &N) {
     for k in 0..net.size().reaches {
-        match net.reach(k) {
-            Ok(reach) => write_reach(out, k, reach),
-            Err(_) => unreachable(),
-        }
+        write_reach(out, k, net.reach(k).unwrap());
     }
 }
 
 // The numbers of the reaches that touch a junction.
-fn show_touches<N: Network>(out: &mut Out, net: &N, v: u16)
-    requires { N.fits net.now }
-{
+fn show_touches<N: Network>(out: &mut Out, net: &N, v: u16) {
     out.print("touch ");
     out.print(v);
     let mut from = 0;
@@ -90,9 +70,7 @@ fn show_touches<N: Network>(out: &mut Out, net: &N, v: u16)
 }
 
 // The whole network: its size, its reaches, and what touches each junction and the number after the last.
-pub fn show_network<N: Network>(out: &mut Out, net: &N)
-    requires { N.fits net.now }
-{
+pub fn show_network<N: Network>(out: &mut Out, net: &N) {
     show_size(out, net);
     show_reaches(out, net);
     for v in 0..=net.size().junctions {

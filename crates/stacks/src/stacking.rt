@@ -1,23 +1,28 @@
 // Four layers over a drawn table.
-use crate::BLANK;
 use crate::dice::Dice;
-use crate::drawn::{draw_call, draw_chambers, draw_gathering, draw_table};
+use crate::drawn::{draw_call, draw_layer, draw_table};
 use crate::lines::write_line;
 use crate::out::Out;
 use crate::showing::{show_network, show_reaches};
 use calls::tally;
-use network::Network;
+use chambers::Chambers;
+use gathering::Gathering;
+use network::{Network, Row};
 
 // The seed of the dice of stack 0.
 const SEED: u64 = 3000;
+
+// Fewer chambers than this are drawn for a layer, and fewer sources and sinks, before the one that comes while a reach
+// may carry.
+const MOST_CHAMBERS: usize = 4;
+
+const MOST_FEEDERS: usize = 5;
 
 // How many calls are made on a whole stack.
 const CALLS: usize = 6;
 
 // Prints what a network is, makes calls, and prints what it then carries and delivers.
-fn show_in_use<N: Network>(out: &mut Out, dice: &mut Dice, net: &mut N)
-    requires { N.fits net.old }
-{
+fn show_in_use<N: Network>(out: &mut Out, dice: &mut Dice, net: &mut N) {
     show_network(out, net);
     for _ in 0..CALLS {
         draw_call(out, dice, net);
@@ -27,20 +32,16 @@ fn show_in_use<N: Network>(out: &mut Out, dice: &mut Dice, net: &mut N)
 }
 
 // Puts the upper two layers over a network, and uses the whole.
-fn show_upper_layers<N: Network + Drop>(out: &mut Out, dice: &mut Dice, net: N)
-    requires { N.fits net }
-{
-    let net = draw_chambers(out, dice, net);
-    let mut net = draw_gathering(out, dice, net);
+fn show_upper_layers<N: Network + Drop>(out: &mut Out, dice: &mut Dice, net: N) {
+    let net: Chambers<N> = draw_layer(out, dice, net, MOST_CHAMBERS);
+    let mut net: Gathering<Chambers<N>> = draw_layer(out, dice, net, MOST_FEEDERS);
     show_in_use(out, dice, &mut net);
 }
 
 // Puts four layers over a network, and uses the whole.
-fn show_layers<N: Network + Drop>(out: &mut Out, dice: &mut Dice, net: N)
-    requires { N.fits net }
-{
-    let net = draw_chambers(out, dice, net);
-    let net = draw_gathering(out, dice, net);
+fn show_layers<N: Network + Drop>(out: &mut Out, dice: &mut Dice, net: N) {
+    let net: Chambers<N> = draw_layer(out, dice, net, MOST_CHAMBERS);
+    let net: Gathering<Chambers<N>> = draw_layer(out, dice, net, MOST_FEEDERS);
     show_upper_layers(out, dice, net);
 }
 
@@ -48,7 +49,7 @@ fn show_layers<N: Network + Drop>(out: &mut Out, dice: &mut Dice, net: N)
 pub fn show_stack(out: &mut Out, number: u32) {
     write_line(out, "stack", number);
     let mut dice = Dice::new(SEED + number as u64);
-    let mut rows = [BLANK; 8];
+    let mut rows = [Row::default(); 8];
     let table = draw_table(&mut dice, &mut rows);
     show_layers(out, &mut dice, table);
 }

