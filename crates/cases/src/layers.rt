@@ -1,17 +1,11 @@
 // Layers over a table.
+use crate::{BLANK, refused};
 use calls::tally;
 use chambers::Chambers;
 use gathering::{Gathering, Role};
-use network::{Network, Row};
+use network::Network;
 use refusal::{Fault, Part, Refusal};
 use table::Draft;
-
-const BLANK: Row = Row {
-    tail: 9,
-    head: 9,
-    limit: 9,
-    carried: 9,
-};
 
 // The example of docs/LAYERS.md.
 fn example() -> Result<i64, Refusal> {
@@ -38,10 +32,6 @@ fn example() -> Result<i64, Refusal> {
 #[test]
 fn the_example_of_layers_delivers_400(rt: HostRuntime) {
     assert_eq!(rt; example(), Ok(400));
-}
-
-fn refused(fault: Fault, part: Part) -> Result<(), Refusal> {
-    Err(Refusal::new(fault, part))
 }
 
 #[test]

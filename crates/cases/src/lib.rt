@@ -7,3 +7,23 @@ mod layers;
 mod networks;
 #[cfg(test)]
 mod readers;
+
+#[cfg(test)]
+use network::Row;
+#[cfg(test)]
+use refusal::{Fault, Part, Refusal};
+
+// What the rows of a table hold before reaches are laid in them.
+#[cfg(test)]
+const BLANK: Row = Row {
+    tail: 9,
+    head: 9,
+    limit: 9,
+    carried: 9,
+};
+
+// The answer of a library call that is refused.
+#[cfg(test)]
+fn refused(fault: Fault, part: Part) -> Result<(), Refusal> {
+    Err(Refusal::new(fault, part))
+}
