@@ -57,18 +57,6 @@ too_long = refusal_at InputTooLong 0
 abbrev pub Verdict : Type 0
 Verdict = Result (Option (Kind × Stage)) Fault
 
--- what the checks of the code find, as a verdict
-abbrev pub verdict_of : Result (Option (RawRecord × Stage)) Fault → Verdict
-verdict_of (Err f) = Err f
-verdict_of (Ok None) = Ok None
-verdict_of (Ok (Some p)) = Ok (Some (p.0.kind, p.1))
-
--- a record that the checks of the code find is the bytes at the front of bs
-abbrev pub FoundIn : Result (Option (RawRecord × Stage)) Fault → List ℕ → Type 0
-FoundIn (Err f) bs = Unit {0}
-FoundIn (Ok None) bs = Unit {0}
-FoundIn (Ok (Some p)) bs = p.0.bytes.now ≡ take (length_of p.0.kind) bs
-
 -- fourth, the fields of the record are right
 abbrev pub fielded : Option Fault → Kind × Stage → Verdict
 fielded None p = Ok (Some p)
@@ -95,6 +83,18 @@ abbrev pub Whole : Verdict → List ℕ → Type 0
 Whole (Err f) bs = Unit {0}
 Whole (Ok None) bs = Unit {0}
 Whole (Ok (Some p)) bs = length_of p.0 ≤ length bs
+
+-- what the checks of the code find, as a verdict
+abbrev pub verdict_of : Result (Option (RawRecord × Stage)) Fault → Verdict
+verdict_of (Err f) = Err f
+verdict_of (Ok None) = Ok None
+verdict_of (Ok (Some p)) = Ok (Some (p.0.kind, p.1))
+
+-- a record that the checks of the code find is the bytes at the front of bs
+abbrev pub FoundIn : Result (Option (RawRecord × Stage)) Fault → List ℕ → Type 0
+FoundIn (Err f) bs = Unit {0}
+FoundIn (Ok None) bs = Unit {0}
+FoundIn (Ok (Some p)) bs = p.0.bytes.now ≡ take (length_of p.0.kind) bs
 
 -- ---- the call
 

@@ -13,8 +13,8 @@ use refusal::{Fault, Part, Refusal};
 // The most bytes that an input may have.
 pub const MOST_BYTES: usize = 65_536;
 
-// A reader, and how far it has come in its input. (That `place` is within it stands in the clause `within` of `next`, and
-// not in a ghost field: the type of a desk, which has a reader, over a network with a `&mut` would get no proof.)
+// A reader, and how far it has come in its input. (That `place` is within `input` is a clause of `next` and no ghost field:
+// with one, a function over a desk, which holds a reader, and a network that holds a `&mut` gets no generated proof.)
 #[derive(Clone, Copy)]
 pub struct Reader<'a> {
     input: &'a [u8],

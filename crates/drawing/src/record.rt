@@ -97,7 +97,7 @@ impl<'a> RawRecord<'a> {
 
     // Checks the fields of a name, in a drawing of so many junctions.
     fn check_name(&self, junctions: u16) -> Result<(), Fault>
-        requires { length_of self.now.kind ≡ 11 }
+        requires { self.now.kind ≡ Kind.Name }
         ensures { result_err result ≡ wrong_name self.now.bytes.now junctions }
     {
         if u16::from_be_bytes(self.field(1)) >= junctions {
