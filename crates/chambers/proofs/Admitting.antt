@@ -10,22 +10,28 @@ use Rattle.refusal.specs.Checks.{first_of}
 use Rattle.flow.specs.Bounds.{most_junctions, most_reaches, highest_setting}
 use Rattle.flow.specs.Net.{Arc, Net, no_arc, arc_at, FairArc, Sound}
 use Rattle.flow.proofs.Fairness.{fair_all}
+use Rattle.network.specs.declared.interface.Network.{Ghosts}
+use Rattle.network.specs.declared.size.Size.{Size}
+use Rattle.layer.specs.declared.extended.Extended.{Extended}
+use Rattle.layer.specs.Keeping.{own_arcs}
 use Rattle.layer.specs.Layering.{leaving_from}
 use Rattle.layer.specs.Chambered.{twin_of, or_self, left_from, chambered, ChamberArc, Chambering}
 use Rattle.layer.proofs.Twins.{left_from_is}
 use Rattle.chambers.specs.Bounds.{most_chambers}
 use Rattle.chambers.specs.Entering.{chamber_checks, chamber_reach, instead, with_chamber}
+use Rattle.chambers.specs.declared.chambers.Chambers.{Chambers}
+use Rattle.chambers.specs.Standing.{chambers_net}
 use Rattle.chambers.proofs.Touches.{no_twin}
 
-pub record Admitted (g : Net) (own : List Arc) (v q : ℕ) : Type 0 where
-  pub inside : v < g.junctions
-  pub lone : twin_of own v ≡ None
-  pub low : q ≤ highest_setting
-  pub room : length own < most_chambers
-  pub small : g.junctions + length own + 1 ≤ most_junctions
-  pub short : length g.reaches + length own + 1 ≤ most_reaches
+record Admitted (g : Net) (own : List Arc) (v q : ℕ) : Type 0 where
+  inside : v < g.junctions
+  lone : twin_of own v ≡ None
+  low : q ≤ highest_setting
+  room : length own < most_chambers
+  small : g.junctions + length own + 1 ≤ most_junctions
+  short : length g.reaches + length own + 1 ≤ most_reaches
 
-pub admitted : (g : Net) (own : List Arc) (v q : ℕ) → first_of (chamber_checks g own v q) ≡ None → Admitted g own v q
+admitted : (g : Net) (own : List Arc) (v q : ℕ) → first_of (chamber_checks g own v q) ≡ None → Admitted g own v q
 admitted g own v q h = record {
   inside = grind (arith, nat_tests);
   lone = no_twin (twin_of own v) (grind (arith, nat_tests));
@@ -87,9 +93,22 @@ map_twice f h k [] same = refl
 map_twice f h k (r ∷ rs) same =
     cc (All-head (λ r. f r ≡ h (k r)) r rs same, map_twice f h k rs (All-tail (λ r. f r ≡ h (k r)) r rs same))
 
-module _ (g : Net) (own : List Arc) (v q : ℕ) (a : Admitted g own v q) (f : Chambering g.junctions (length g.reaches) own) where
+-- chamber v with limit q enters the layer x, and y is what the layer is over then, and holds
+module _ {N : Type 0} {R : Ghosts N} (x : Chambers N R) (v q : ℕ)
+    (ok : first_of (chamber_checks (R.meaning x.extended.below) (own_arcs x.extended.own) v q) ≡ None)
+    (y : Extended N R) (below : y.below ≡ x.extended.below) (mine : own_arcs y.own ≡
+    own_arcs x.extended.own ++ (chamber_reach (R.meaning x.extended.below) (own_arcs x.extended.own) v q ∷ [])) where
+  abbrev g : Net
+  g = R.meaning x.extended.below
+
   abbrev n : ℕ
   n = g.junctions
+
+  abbrev own : List Arc
+  own = own_arcs x.extended.own
+
+  abbrev twin : ℕ
+  twin = n + length own
 
   abbrev new : Arc
   new = chamber_reach g own v q
@@ -97,80 +116,87 @@ module _ (g : Net) (own : List Arc) (v q : ℕ) (a : Admitted g own v q) (f : Ch
   abbrev more : List Arc
   more = own ++ (new ∷ [])
 
-  pub admitted_fit : Chambering n (length g.reaches) more
-  admitted_fit = record {
+  s : Sound g
+  s = R.sound x.extended.below
+
+  a : Admitted g own v q
+  a = admitted g own v q ok
+
+  same : R.meaning y.below ≡ g
+  same = ap R.meaning below
+
+  -- the chambers still fit, and the array with the new twin tells the twins
+  pub fit_entered : Chambering (R.meaning y.below).junctions (length (R.meaning y.below).reaches) (own_arcs y.own)
+  fit_entered = rw (same, mine) (record {
     small = omega (arith, length_push own new, a.small);
     short = omega (arith, length_push own new, a.short);
-    each = each_push (ChamberArc n) own new f.each (a.inside, refl, omega arith, omega (arith, a.low));
+    each = each_push (ChamberArc n) own new x.fit.each (a.inside, refl, omega arith, omega (arith, a.low));
     alone = each_push (λ _ r. twin_of more r.tail ≡ Some r.head) own new
-        (λ e low. twin_kept own new (arc_at own e).tail (arc_at own e).head (f.alone e low))
+        (λ e low. twin_kept own new (arc_at own e).tail (arc_at own e).head (x.fit.alone e low))
         (twin_new own new a.lone);
-  }
+  })
 
-  -- the array with the new twin tells the twins
-  pub admitted_told : (twins : List (Option ℕ)) → length twins ≡ most_junctions →
-      ((w : ℕ) → w < most_junctions → get_or twins w None ≡ twin_of own w) →
-      (w : ℕ) → w < most_junctions → get_or (set twins v (Some (n + length own))) w None ≡ twin_of more w
-  admitted_told twins wide told w low = ⊎_elim
-      (λ (is : w ≡ v).
-      let there : v < length twins = omega (arith, a.inside, a.small) in
-      subst (λ (u : ℕ). get_or (set twins v (Some (n + length own))) u None ≡ twin_of more u) (sym is)
-      (get_or-set_same twins v (Some (n + length own)) None there ∙ sym (twin_new own new a.lone)))
-      (λ (ne : w ≢ v). get_or-set_other twins v w (Some (n + length own)) None ne ∙ told w low ∙ sym (twin_other own new w ne))
-      (cases_eq w v)
+  pub told_entered : (i t : ℕ) → i ≡ v → t ≡ x.extended.base.junctions + length own → length x.twins ≡ 512 →
+      (w : ℕ) → w < 512 → get_or (set x.twins i (Some t)) w None ≡ twin_of (own_arcs y.own) w
+  told_entered i t here is wide w low =
+      let last : t ≡ twin = omega (arith, ap (λ (z : Size). z.junctions) x.extended.known) in
+      rw (here, last, mine)
+      (⊎_elim
+      (λ (at : w ≡ v).
+      let there : v < length x.twins = omega (arith, a.inside, a.small) in
+      rw at (get_or-set_same x.twins v (Some twin) None there ∙ sym (twin_new own new a.lone)))
+      (λ (ne : w ≢ v). get_or-set_other x.twins v w (Some twin) None ne ∙ x.told w low ∙ sym (twin_other own new w ne))
+      (cases_eq w v))
 
   -- what leaves a junction of the network below once the chamber is there
-  left_more : (w : ℕ) → w < n → left_from more w ≡ instead v (n + length own) (left_from own w)
+  left_more : (w : ℕ) → w < n → left_from more w ≡ instead v twin (left_from own w)
   left_more w low = ⊎_elim at_v elsewhere (cases_eq w v)
     where
-      at_v : w ≡ v → left_from more w ≡ instead v (n + length own) (left_from own w)
+      at_v : w ≡ v → left_from more w ≡ instead v twin (left_from own w)
       at_v is =
-          let here : left_from more v ≡ n + length own = ap (λ (o : Option ℕ). or_self o v) (twin_new own new a.lone) in
+          let here : left_from more v ≡ twin = ap (λ (o : Option ℕ). or_self o v) (twin_new own new a.lone) in
           let itself : left_from own v ≡ v = ap (λ (o : Option ℕ). or_self o v) a.lone in
-          let moved : instead v (n + length own) (left_from own v) ≡ n + length own =
-          cond-true (eqb (left_from own v) v) (n + length own) (left_from own v) (eq-eqb (left_from own v) v itself) in
-          subst (λ (u : ℕ). left_from more u ≡ instead v (n + length own) (left_from own u)) (sym is) (here ∙ sym moved)
+          let moved : instead v twin (left_from own v) ≡ twin =
+          cond-true (eqb (left_from own v) v) twin (left_from own v) (eq-eqb (left_from own v) v itself) in
+          subst (λ (u : ℕ). left_from more u ≡ instead v twin (left_from own u)) (sym is) (here ∙ sym moved)
 
-      elsewhere : w ≢ v → left_from more w ≡ instead v (n + length own) (left_from own w)
+      elsewhere : w ≢ v → left_from more w ≡ instead v twin (left_from own w)
       elsewhere ne =
-          let away : left_from own w ≢ v = λ e. ⊎_elim (λ same. ne (sym same ∙ e))
-          (λ p. let z : ⊥ = omega (arith, p.0, e, a.inside) in z) (left_from_is n own f.each w) in
+          let away : left_from own w ≢ v = λ e. ⊎_elim (λ still. ne (sym still ∙ e))
+          (λ p. let z : ⊥ = omega (arith, p.0, e, a.inside) in z) (left_from_is n own x.fit.each w) in
           ap (λ (o : Option ℕ). or_self o w) (twin_other own new w ne)
-          ∙ sym (cond-false (eqb (left_from own w) v) (n + length own) (left_from own w) (ne_eqb (left_from own w) v away))
+          ∙ sym (cond-false (eqb (left_from own w) v) twin (left_from own w) (ne_eqb (left_from own w) v away))
+
+  -- a reach of the network below leaves v's twin in place of v, and a chamber's reach leaves what it left
+  below_again : All (λ r. leaving_from (left_from more) r ≡ leaving_from (instead v twin) (leaving_from (left_from own) r)) g.reaches
+  below_again = All-weaker (FairArc n) (λ r. leaving_from (left_from more) r ≡ leaving_from (instead v twin) (leaving_from (left_from own) r))
+      (λ r fair. ap (λ (t : ℕ). leaving_from (λ _. t) r) (left_more r.tail fair.0.0)) g.reaches (fair_all g s)
+
+  own_still : All (λ r. leaving_from (instead v twin) r ≡ r) own
+  own_still = All-from_get_or (λ r. leaving_from (instead v twin) r ≡ r) own no_arc (λ e low.
+      let r = arc_at own e in
+      let away : r.tail ≢ v = λ is.
+      let z : ◌≡◌ {A = ℕ} 0 1 = cc (x.fit.alone e low, a.lone, ap (twin_of own) is) in
+      let none : ⊥ = omega arith in none in
+      ap (λ (t : ℕ). leaving_from (λ _. t) r) (cond-false (eqb r.tail v) twin r.tail (ne_eqb r.tail v away)))
+
+  reaches_more : map (leaving_from (left_from more)) g.reaches ++ more ≡ (with_chamber v q (chambers_net x)).reaches
+  reaches_more =
+      let step = leaving_from (instead v twin) in
+      let was = map (leaving_from (left_from own)) g.reaches in
+      ap (λ (xs : List Arc). xs ++ more)
+      (map_twice (leaving_from (left_from more)) step (leaving_from (left_from own)) g.reaches below_again)
+      ∙ ap (λ (xs : List Arc). map step was ++ (xs ++ (new ∷ []))) (sym (map_fixed step own own_still))
+      ∙ sym (append_assoc (map step was) (map step own) (new ∷ []))
+      ∙ ap (λ (xs : List Arc). xs ++ (new ∷ [])) (sym (map-append step was own))
 
   -- the network with the new chamber, said of the network as it was
-  module _ (s : Sound g) where
-    abbrev twin : ℕ
-    twin = n + length own
-
-    -- a reach of the network below leaves v's twin in place of v, and a chamber's reach leaves what it left
-    below_again : All (λ r. leaving_from (left_from more) r ≡ leaving_from (instead v twin) (leaving_from (left_from own) r)) g.reaches
-    below_again = All-weaker (FairArc n) (λ r. leaving_from (left_from more) r ≡ leaving_from (instead v twin) (leaving_from (left_from own) r))
-        (λ r fair. ap (λ (t : ℕ). leaving_from (λ _. t) r) (left_more r.tail fair.0.0)) g.reaches (fair_all g s)
-
-    own_still : All (λ r. leaving_from (instead v twin) r ≡ r) own
-    own_still = All-from_get_or (λ r. leaving_from (instead v twin) r ≡ r) own no_arc (λ e low.
-        let r = arc_at own e in
-        let away : r.tail ≢ v = λ is.
-        let z : ◌≡◌ {A = ℕ} 0 1 = cc (f.alone e low, a.lone, ap (twin_of own) is) in
-        let none : ⊥ = omega arith in none in
-        ap (λ (t : ℕ). leaving_from (λ _. t) r) (cond-false (eqb r.tail v) twin r.tail (ne_eqb r.tail v away)))
-
-    reaches_more : map (leaving_from (left_from more)) g.reaches ++ more ≡ (with_chamber v q (chambered g own)).reaches
-    reaches_more =
-        let step = leaving_from (instead v twin) in
-        let was = map (leaving_from (left_from own)) g.reaches in
-        ap (λ (xs : List Arc). xs ++ more)
-        (map_twice (leaving_from (left_from more)) step (leaving_from (left_from own)) g.reaches below_again)
-        ∙ ap (λ (xs : List Arc). map step was ++ (xs ++ (new ∷ []))) (sym (map_fixed step own own_still))
-        ∙ sym (append_assoc (map step was) (map step own) (new ∷ []))
-        ∙ ap (λ (xs : List Arc). xs ++ (new ∷ [])) (sym (map-append step was own))
-
-    pub chambered-with : chambered g more ≡ with_chamber v q (chambered g own)
-    chambered-with =
-        let make : ℕ → ℕ → List Arc → Net = λ j o rs. record { junctions = j; intake = g.intake; outfall = o; reaches = rs } in
-        let rs = map (leaving_from (left_from more)) g.reaches ++ more in
-        let junctions : n + length more ≡ twin + 1 = omega (arith, length_push own new) in
-        ap (λ (j : ℕ). make j (left_from more g.outfall) rs) junctions
-        ∙ ap (λ (o : ℕ). make (twin + 1) o rs) (left_more g.outfall s.shaped.outfall_in)
-        ∙ ap (make (twin + 1) (instead v twin (left_from own g.outfall))) reaches_more
+  pub net_entered : chambered (R.meaning y.below) (own_arcs y.own) ≡ with_chamber v q (chambers_net x)
+  net_entered =
+      let make : ℕ → ℕ → List Arc → Net = λ j o rs. record { junctions = j; intake = g.intake; outfall = o; reaches = rs } in
+      let rs = map (leaving_from (left_from more)) g.reaches ++ more in
+      let junctions : n + length more ≡ twin + 1 = omega (arith, length_push own new) in
+      rw (same, mine)
+      (ap (λ (j : ℕ). make j (left_from more g.outfall) rs) junctions
+      ∙ ap (λ (o : ℕ). make (twin + 1) o rs) (left_more g.outfall s.shaped.outfall_in)
+      ∙ ap (make (twin + 1) (instead v twin (left_from own g.outfall))) reaches_more)
