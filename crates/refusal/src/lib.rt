@@ -119,7 +119,13 @@ impl fmt::Display for Refusal {
     ghost output = { λ e. Some (refusal_text (number_of e.fault) e.place e.part) };
 
     fn fmt<W: fmt::Write>(&self, f: &mut fmt::Formatter<W>) -> fmt::Result {
-        write!(f, "refused {}{} in {}", self.fault.number(), At(self.place), self.part)
+        write!(
+            f,
+            "refused {}{} in {}",
+            self.fault.number(),
+            At(self.place),
+            self.part
+        )
     }
 }
 
