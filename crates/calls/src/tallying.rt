@@ -1,20 +1,19 @@
 ghost use Rattle.std.specs.Prelude.{◌≡◌};
 ghost use Rattle.flow.specs.Flows.{delivered};
 
-use network::Network;
+use network::{Network, Reaches};
 
 // What the network delivers: what leaves the intake minus what enters it, below 0 too. Never refused.
 pub fn tally<N: Network>(net: &N) -> i64
     ensures { result ≡ delivered (N.meaning net.now) }
 {
-    let size = net.size();
+    let intake = net.size().intake;
     let mut sum: i64 = 0;
-    for k in 0..size.reaches {
-        let reach = net.reach(k).unwrap();
-        if reach.tail == size.intake {
+    for reach in Reaches::of(net) {
+        if reach.tail == intake {
             sum += i64::from(reach.carried);
         }
-        if reach.head == size.intake {
+        if reach.head == intake {
             sum -= i64::from(reach.carried);
         }
     }

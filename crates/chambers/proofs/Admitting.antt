@@ -93,7 +93,7 @@ map_twice f h k [] same = refl
 map_twice f h k (r ∷ rs) same =
     cc (All-head (λ r. f r ≡ h (k r)) r rs same, map_twice f h k rs (All-tail (λ r. f r ≡ h (k r)) r rs same))
 
--- chamber v with limit q enters the layer x, and y is what the layer is over then, and holds
+-- x is the layer before the entry of a chamber at v with limit q, and y the extended network in it after the entry
 module _ {N : Type 0} {R : Ghosts N} (x : Chambers N R) (v q : ℕ)
     (ok : first_of (chamber_checks (R.meaning x.extended.below) (own_arcs x.extended.own) v q) ≡ None)
     (y : Extended N R) (below : y.below ≡ x.extended.below) (mine : own_arcs y.own ≡
@@ -136,11 +136,10 @@ module _ {N : Type 0} {R : Ghosts N} (x : Chambers N R) (v q : ℕ)
         (twin_new own new a.lone);
   })
 
-  pub told_entered : (i t : ℕ) → i ≡ v → t ≡ x.extended.base.junctions + length own → length x.twins ≡ 512 →
-      (w : ℕ) → w < 512 → get_or (set x.twins i (Some t)) w None ≡ twin_of (own_arcs y.own) w
-  told_entered i t here is wide w low =
-      let last : t ≡ twin = omega (arith, ap (λ (z : Size). z.junctions) x.extended.known) in
-      rw (here, last, mine)
+  pub told_entered : (i : ℕ) (o : Option ℕ) → i ≡ v → o ≡ Some (x.extended.base.junctions + length own) → length x.twins ≡ 512 →
+      (w : ℕ) → w < 512 → get_or (set x.twins i o) w None ≡ twin_of (own_arcs y.own) w
+  told_entered i o here is wide w low =
+      rw (here, is, ap (λ (z : Size). z.junctions) x.extended.known, mine)
       (⊎_elim
       (λ (at : w ≡ v).
       let there : v < length x.twins = omega (arith, a.inside, a.small) in

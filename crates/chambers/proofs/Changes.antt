@@ -20,7 +20,7 @@ use Rattle.layer.proofs.Lifting.{retailed}
 use Rattle.chambers.specs.declared.chambers.Chambers.{Chambers}
 use Rattle.chambers.specs.Standing.{chambers_net, chambers_giver}
 
--- then no twin moves
+-- chambers whose reaches have the same ends have the same twins
 pub twins_same : (own after : List Arc) → SameEnds own after → (v : ℕ) → twin_of after v ≡ twin_of own v
 twins_same [] [] s v = refl
 twins_same [] (x ∷ xs) s v = absurd (let z : ⊥ = omega (arith, s.0) in z)
@@ -29,7 +29,7 @@ twins_same (r ∷ rs) (x ∷ xs) s v =
     let here = s.1 0 (omega arith) in
     cc (here.0, here.1, twins_same rs xs (omega (arith, s.0), λ e low. s.1 (suc e) (omega arith)) v)
 
--- the layer after a change: y is what it is over then, and holds
+-- x is the layer before a change, and y the extended network in it after the change
 module _ {N : Type 0} {R : Ghosts N} (x : Chambers N R) (y : Extended N R) (base : y.base ≡ x.extended.base)
     (ends : SameEnds (own_arcs x.extended.own) (own_arcs y.own)) where
   abbrev own : List Arc

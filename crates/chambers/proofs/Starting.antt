@@ -8,7 +8,7 @@ use Rattle.layer.specs.Keeping.{own_arcs}
 use Rattle.layer.specs.Layering.{leaving_from}
 use Rattle.layer.specs.Chambered.{twin_of, left_from, chambered, Chambering}
 
--- y is what the layer is over, and holds
+-- y is the extended network in the layer
 module _ {N : Type 0} {R : Ghosts N} (y : Extended N R) (none : own_arcs y.own ≡ []) where
   abbrev g : Net
   g = R.meaning y.below

@@ -21,7 +21,7 @@ pub no_twin : (o : Option ℕ) → is_some o ≡ false → o ≡ None
 no_twin (Some t) h = absurd (let z : ◌≡◌ {A = ℕ} 0 1 = cc in omega arith)
 no_twin None h = refl
 
--- of a layer, from what its code looks at: its array and its own rows; r is the first from k on
+-- of the layer x: r is the answer for the reaches from k on, as its code finds it by its array and its own rows
 module _ {N : Type 0} {R : Ghosts N} (x : Chambers N R) (v k : ℕ) (r : Option ℕ) where
   abbrev g : Net
   g = R.meaning x.extended.below

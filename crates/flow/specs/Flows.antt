@@ -1,5 +1,6 @@
 -- What passes a junction, and what a network delivers.
-use Rattle.std.specs.Prelude.{ℕ, ◌+◌, Bool, false, cond, ◌||◌, List, [], ◌∷◌, ℤ, pos, ◌-ℤ◌, ◌==◌, nat_lt}
+use Rattle.std.specs.Prelude.{ℕ, ◌+◌, Bool, cond, List, [], ◌∷◌, ℤ, pos, ◌-ℤ◌, ◌==◌, nat_lt}
+use Rattle.std.specs.List.{list_any}
 use Rattle.flow.specs.Net.{Arc, Net}
 
 -- a sum over reaches
@@ -27,5 +28,4 @@ delivered g = pos (leaving g.intake g.reaches) -ℤ pos (entering g.intake g.rea
 
 -- whether some reach carries more than 0
 abbrev pub carries_any : List Arc → Bool
-carries_any [] = false
-carries_any (r ∷ rs) = nat_lt 0 r.carried || carries_any rs
+carries_any rs = list_any (λ r. nat_lt 0 r.carried) rs

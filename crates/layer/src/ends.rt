@@ -4,7 +4,7 @@ ghost use Rattle.network.specs.Answers.{arc_in};
 ghost use Rattle.network.specs.Touching.{FirstFrom};
 ghost use Rattle.layer.specs.Ends.{end_of};
 
-use network::{Network, Reach};
+use network::{Network, Reach, Touching};
 
 // An end of a reach.
 #[derive(Clone, Copy, PartialEq, Eq, Debug)]
@@ -29,12 +29,10 @@ impl End {
 pub fn next_at<N: Network>(net: &N, end: End, junction: u16, k: usize) -> Option<usize>
     ensures { FirstFrom (λ a. end_of end a ≡ junction) (N.meaning net.now).reaches k result }
 {
-    let mut from = k;
-    while let Some(i) = net.touch(junction, from) {
+    for i in Touching::from(net, junction, k) {
         if end.of(net.reach(i).unwrap()) == junction {
             return Some(i);
         }
-        from = i + 1;
     }
     None
 }

@@ -3,19 +3,14 @@ ghost use Rattle.std.specs.Prelude.{◌≡◌};
 ghost use Rattle.flow.specs.Flows.{carries_any};
 ghost use Rattle.layer.specs.Layering.{crowded};
 
-use network::Network;
 use network::bounds::{MOST_JUNCTIONS, MOST_REACHES};
+use network::{Network, Reaches};
 
 // Whether some reach of a network carries more than 0.
 pub fn carries_any<N: Network>(net: &N) -> bool
     ensures { result ≡ carries_any (N.meaning net.now).reaches }
 {
-    for k in 0..net.size().reaches {
-        if net.reach(k).unwrap().carried > 0 {
-            return true;
-        }
-    }
-    false
+    Reaches::of(net).any(|reach| reach.carried > 0)
 }
 
 // Whether these are more junctions or more reaches than a network may have.

@@ -1,5 +1,6 @@
 pub mod Answers
 pub mod Touching
+pub mod Going
 pub mod Changing
 pub mod Rows
 pub mod Laws

@@ -3,6 +3,7 @@
 
 pub mod bounds;
 pub mod change;
+pub mod going;
 pub mod interface;
 pub mod laws;
 pub mod reach;
@@ -11,6 +12,7 @@ pub mod rows;
 pub mod size;
 
 pub use change::Change;
+pub use going::{Reaches, Touching};
 pub use interface::Network;
 pub use reach::{BrokenBound, Reach};
 pub use row::Row;

@@ -4,7 +4,7 @@ use crate::lines::{write_call, write_reach, write_size};
 use crate::out::Out;
 use chambers::Chambers;
 use gathering::{Gathering, Role};
-use network::{Change, Network};
+use network::{Change, Network, Reaches, Touching};
 
 fn word_of_change(change: Change) -> (&'static str, u32) {
     match change {
@@ -51,8 +51,8 @@ pub fn show_size<N: Network>(out: &mut Out, net: &N) {
 
 // All reaches, in the order of their numbers.
 pub fn show_reaches<N: Network>(out: &mut Out, net: &N) {
-    for k in 0..net.size().reaches {
-        write_reach(out, k, net.reach(k).unwrap());
+    for (k, reach) in Reaches::of(net).enumerate() {
+        write_reach(out, k, reach);
     }
 }
 
@@ -60,11 +60,9 @@ pub fn show_reaches<N: Network>(out: &mut Out, net: &N) {
 fn show_touches<N: Network>(out: &mut Out, net: &N, v: u16) {
     out.print("touch ");
     out.print(v);
-    let mut from = 0;
-    while let Some(k) = net.touch(v, from) {
+    for k in Touching::from(net, v, 0) {
         out.print(" ");
         out.print(k);
-        from = k + 1;
     }
     out.print("\n");
 }

@@ -11,7 +11,7 @@ invariant_of-self-clause-fit g c =
 pub invariant_of-self-clause-told : goal.invariant_of-self-clause-told
 invariant_of-self-clause-told g c =
     told_entered c.args.self.now c.args.junction c.args.limit c.in_ok-judge.ensures c.insert.new.self (search rules)
-    (grind (arith, common_steps)) _ _ c.from.ensures (omega arith) (omega arith)
+    (grind (arith, common_steps)) _ _ c.from.ensures (search rules) (omega arith)
 
 pub returns-clause-net : goal.returns-clause-net
 returns-clause-net g c =

@@ -8,4 +8,6 @@ left_from-requires g c =
 
 pub returns : goal.returns
 returns g c =
-    told_retailed c.args.self.now c.args.k c.in_ok-reach.reach c.in_ok-reach.ensures (search rules) _ (search rules)
+    let told = told_retailed c.args.self.now c.args.k c.in_ok-reach.reach c.in_ok-reach.ensures (search rules) c.left_from.result
+    (search rules) in
+    search rules
