@@ -8,7 +8,7 @@ use std::io::{BufWriter, Read, Write};
 
 fn main(rt: HostRuntime) -> io::Result<()> {
     let mut input = Vec::new(rt.alloc());
-    // One byte more than an input may have, so that a longer one is refused.
+    // One byte more than an input may have, so that a longer one is refused. (`as`: no `From` makes a u64 of a usize.)
     rt.stdin()
         .take(MOST_BYTES as u64 + 1)
         .read_to_end(&mut input)?;

@@ -5,6 +5,14 @@ use network::Network;
 use refusal::{Fault, Part, Refusal};
 use table::Draft;
 
+fn by_draft(fault: Fault) -> Result<(), Refusal> {
+    refused(fault, Part::Draft)
+}
+
+fn by_network(fault: Fault) -> Result<(), Refusal> {
+    refused(fault, Part::Network)
+}
+
 #[test]
 fn the_1024th_reach_is_the_last(rt: HostRuntime) {
     let mut rows = [BLANK; 1026];
@@ -12,7 +20,7 @@ fn the_1024th_reach_is_the_last(rt: HostRuntime) {
     for _ in 0..1024 {
         assert!(rt; draft.lay(0, 1, 7).is_ok());
     }
-    assert_eq!(rt; draft.lay(0, 1, 7), refused(Fault::NoPlace, Part::Draft));
+    assert_eq!(rt; draft.lay(0, 1, 7), by_draft(Fault::NoPlace));
     assert!(rt; rows[1023].limit == 7);
     assert!(rt; rows[1024].limit == 9);
 }
@@ -24,52 +32,34 @@ fn a_short_table_has_fewer_places(rt: HostRuntime) {
     assert!(rt; draft.lay(0, 1, 1).is_ok());
     assert!(rt; draft.lay(1, 0, 2).is_ok());
     assert!(rt; draft.lay(0, 1, 3).is_ok());
-    assert_eq!(rt; draft.lay(0, 1, 4), refused(Fault::NoPlace, Part::Draft));
+    assert_eq!(rt; draft.lay(0, 1, 4), by_draft(Fault::NoPlace));
 }
 
 #[test]
 fn shapes_from_2_to_256_junctions(rt: HostRuntime) {
     let mut rows = [BLANK; 1];
     let mut draft = Draft::new(&mut rows);
-    assert_eq!(rt;
-        draft.shape(1, 0, 0),
-        refused(Fault::JunctionCount, Part::Draft)
-    );
-    assert_eq!(rt;
-        draft.shape(257, 0, 1),
-        refused(Fault::JunctionCount, Part::Draft)
-    );
-    assert_eq!(rt;
-        draft.shape(2, 0, 2),
-        refused(Fault::NoJunction, Part::Draft)
-    );
-    assert_eq!(rt; draft.shape(2, 1, 1), refused(Fault::Same, Part::Draft));
+    assert_eq!(rt; draft.shape(1, 0, 0), by_draft(Fault::JunctionCount));
+    assert_eq!(rt; draft.shape(257, 0, 1), by_draft(Fault::JunctionCount));
+    assert_eq!(rt; draft.shape(2, 0, 2), by_draft(Fault::NoJunction));
+    assert_eq!(rt; draft.shape(2, 1, 1), by_draft(Fault::Same));
     assert!(rt; draft.shape(256, 255, 0).is_ok());
     assert!(rt; draft.shape(2, 0, 1).is_ok());
     assert!(rt; draft.lay(0, 1, 1).is_ok());
-    assert_eq!(rt; draft.shape(2, 0, 1), refused(Fault::TooLate, Part::Draft));
+    assert_eq!(rt; draft.shape(2, 0, 1), by_draft(Fault::TooLate));
 }
 
 #[test]
 fn limits_go_up_to_a_million(rt: HostRuntime) {
     let mut rows = [BLANK; 2];
     let mut draft = Draft::new(&mut rows);
-    assert_eq!(rt;
-        draft.lay(0, 1, 1_000_001),
-        refused(Fault::LimitTooHigh, Part::Draft)
-    );
+    assert_eq!(rt; draft.lay(0, 1, 1_000_001), by_draft(Fault::LimitTooHigh));
     assert!(rt; draft.lay(0, 1, 1_000_000).is_ok());
     let mut net = draft.commission();
     assert!(rt; net.limit(0, 3).is_ok());
     assert!(rt; net.limit(0, 1_000_000).is_ok());
-    assert_eq!(rt;
-        net.limit(0, 1_000_001),
-        refused(Fault::LimitTooHigh, Part::Network)
-    );
-    assert_eq!(rt;
-        net.limit(1, 1_000_001),
-        refused(Fault::NoReach, Part::Network)
-    );
+    assert_eq!(rt; net.limit(0, 1_000_001), by_network(Fault::LimitTooHigh));
+    assert_eq!(rt; net.limit(1, 1_000_001), by_network(Fault::NoReach));
 }
 
 #[test]
@@ -80,15 +70,9 @@ fn limits_and_carried_amounts(rt: HostRuntime) {
     assert!(rt; draft.lay(1, 0, 20).is_ok());
     let mut net = draft.commission();
     assert!(rt; net.carry(0, 5).is_ok());
-    assert_eq!(rt;
-        net.limit(0, 4),
-        refused(Fault::LimitBelowCarried, Part::Network)
-    );
+    assert_eq!(rt; net.limit(0, 4), by_network(Fault::LimitBelowCarried));
     assert!(rt; net.limit(0, 5).is_ok());
-    assert_eq!(rt;
-        net.carry(0, 6),
-        refused(Fault::AmountAboveLimit, Part::Network)
-    );
+    assert_eq!(rt; net.carry(0, 6), by_network(Fault::AmountAboveLimit));
     assert_eq!(rt; tally(&net), 5);
     assert!(rt; net.carry(1, 20).is_ok());
     assert_eq!(rt; tally(&net), -15);

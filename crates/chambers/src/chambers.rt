@@ -1,10 +1,12 @@
 ghost use Rattle.std.specs.Prelude.{◌≡◌, ◌<◌, ℕ, length, None, slice_index_or};
 ghost use Rattle.std.proofs.Props.{props};
+ghost use Rattle.flow.specs.Bounds.{most_junctions};
 ghost use Rattle.layer.specs.Keeping.{own_arcs};
 ghost use Rattle.layer.specs.Chambered.{twin_of, Chambering};
 
 use layer::Extended;
 use network::Network;
+use network::bounds::MOST_JUNCTIONS;
 
 pub mod calls;
 pub mod entries;
@@ -16,11 +18,12 @@ mod twins;
 pub struct Chambers<N: Network> {
     // the network below, and the chambers' reaches, each from a junction of it to the junction's twin
     extended: Extended<N>,
-    // the twin of each junction of the network below, where it has a chamber
-    twins: [Option<u16>; 512],
+    // the twin of each junction of the network below, where it has a chamber (an array, and not a map: the library has
+    // no heap)
+    twins: [Option<u16>; MOST_JUNCTIONS],
     // the chambers fit the network below
     ghost fit: { Chambering (N.meaning extended.below).junctions (length (N.meaning extended.below).reaches)
         (own_arcs extended.own) } by { Prim.hlevel props },
     // the array tells the twin of each junction
-    ghost told: { (v : ℕ) → v < 512 → slice_index_or twins v None ≡ twin_of (own_arcs extended.own) v } by { Prim.hlevel props },
+    ghost told: { (v : ℕ) → v < most_junctions → slice_index_or twins v None ≡ twin_of (own_arcs extended.own) v } by { Prim.hlevel props },
 }

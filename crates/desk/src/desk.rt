@@ -15,7 +15,7 @@ use drawing::Reader;
 use network::Network;
 use refusal::{Part, Refusal};
 
-// How far a desk has come.
+// How far a desk has come. (A value, and no closure or type for each step: an iterator has to keep it in a field.)
 #[derive(Clone, Copy)]
 enum Phase {
     // Nothing was given yet.

@@ -9,7 +9,8 @@ use report::Report;
 use std::alloc::Global;
 use std::io::{BufRead, BufReader, BufWriter, Write};
 
-// The value of a hexadecimal digit.
+// The value of a hexadecimal digit. (Crate hex takes capitals too, which are none here, so that a check of them would
+// stand beside it.)
 fn digit(b: u8) -> anyhow::Result<u8>
     ensures { IfOk result (λ d. d < 16) }
 {

@@ -1,5 +1,6 @@
 // Entries are read one at a time, each carried out before the next is read. A record that is no entry of the layer is
-// left to the reader, as is a refusal of the reader's own: whoever reads on meets it.
+// left to the reader, as is a refusal of the reader's own: whoever reads on meets it. The loops for the two layers are
+// two: they take other records and hand on other numbers, and a trait over both would be longer than one of them.
 ghost use Rattle.std.specs.Prelude.{◌≡◌};
 ghost use Rattle.drawing.specs.Ahead.{ahead};
 ghost use Rattle.desk.specs.Lines.{going_on};

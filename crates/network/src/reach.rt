@@ -43,7 +43,7 @@ impl Reach {
     pub fn touches(self, junction: u16) -> bool
         ensures { IsTrue result ↔ Touches junction (arc_in self) }
     {
-        self.tail == junction || self.head == junction
+        Row::from(self).touches(junction)
     }
 }
 

@@ -9,7 +9,8 @@ use crate::change::Change;
 use crate::reach::Reach;
 use refusal::{Fault, Part, Refusal};
 
-// A row of a table: the four numbers of a reach, with nothing known of them.
+// A row of a table: the four numbers of a reach, with nothing known of them. It is a type of its own beside `Reach`,
+// which cannot hold all numbers, since a table is lent with anything in its rows.
 #[derive(Clone, Copy, PartialEq, Eq, Debug, Default)]
 pub struct Row {
     pub tail: u16,

@@ -9,20 +9,27 @@ use gathering::{Gathering, Role};
 use network::{Change, Network, Row};
 use table::{Draft, Table};
 
+// Where lines are printed, and the dice that say what is drawn and called.
+#[derive(Drop)]
+pub struct Session<'a> {
+    pub out: &'a mut Out,
+    pub dice: Dice,
+}
+
 // A junction below n.
 fn draw_junction(dice: &mut Dice, n: u16) -> u16
     requires { 0 < n }
     ensures { result < n }
 {
-    dice.below(n as usize) as u16
+    dice.below(usize::from(n)) as u16
 }
 
 // Two different junctions below n.
 fn draw_two(dice: &mut Dice, n: u16) -> (u16, u16)
     requires { 2 ≤ n }
 {
-    let first = dice.below(n as usize);
-    let second = (first + 1 + dice.below(n as usize - 1)) % n as usize;
+    let first = dice.below(usize::from(n));
+    let second = (first + 1 + dice.below(usize::from(n) - 1)) % usize::from(n);
     (first as u16, second as u16)
 }
 
@@ -51,7 +58,7 @@ pub trait Layer<N>: Network {
     fn over(below: N) -> Self;
 
     // Draws an entry over a network of n junctions, enters it, and prints the answer.
-    fn draw_entry(&mut self, out: &mut Out, dice: &mut Dice, n: u16);
+    fn draw_entry(&mut self, session: &mut Session<'_>, n: u16);
 }
 
 impl<N: Network> Layer<N> for Chambers<N> {
@@ -59,10 +66,10 @@ impl<N: Network> Layer<N> for Chambers<N> {
         Chambers::new(below)
     }
 
-    fn draw_entry(&mut self, out: &mut Out, dice: &mut Dice, n: u16) {
-        let v = draw_junction(dice, n.saturating_add(2));
-        let q = draw_amount(dice);
-        show_chamber(out, self, v, q);
+    fn draw_entry(&mut self, session: &mut Session<'_>, n: u16) {
+        let v = draw_junction(&mut session.dice, n.saturating_add(2));
+        let q = draw_amount(&mut session.dice);
+        show_chamber(session.out, self, v, q);
     }
 }
 
@@ -71,7 +78,8 @@ impl<N: Network> Layer<N> for Gathering<N> {
         Gathering::new(below)
     }
 
-    fn draw_entry(&mut self, out: &mut Out, dice: &mut Dice, n: u16) {
+    fn draw_entry(&mut self, session: &mut Session<'_>, n: u16) {
+        let dice = &mut session.dice;
         let role = if dice.below(2) == 0 {
             Role::Source
         } else {
@@ -80,32 +88,33 @@ impl<N: Network> Layer<N> for Gathering<N> {
         let v = draw_junction(dice, n.saturating_add(1));
         let is_stated = dice.below(3) != 0;
         let q = draw_amount(dice);
-        show_feeder(out, self, role, v, is_stated.then_some(q));
+        show_feeder(session.out, self, role, v, is_stated.then_some(q));
     }
 }
 
 // Puts a layer over a network: draws fewer than `most` entries, and where there is a reach one more while it may carry.
-pub fn draw_layer<N: Network, L: Layer<N>>(out: &mut Out, dice: &mut Dice, net: N, most: usize) -> L
+pub fn draw_layer<N: Network, L: Layer<N>>(session: &mut Session<'_>, net: N, most: usize) -> L
     requires { 0 < most }
 {
     let n = net.size().junctions;
     let mut layer = L::over(net);
-    for _ in 0..dice.below(most) {
-        layer.draw_entry(out, dice, n);
+    for _ in 0..session.dice.below(most) {
+        layer.draw_entry(session, n);
     }
     let m = layer.size().reaches;
     if m > 0 {
-        let k = dice.below(m);
-        let amount = dice.below(2) as u32;
-        show_change(out, &mut layer, k, Change::Carry(amount));
-        layer.draw_entry(out, dice, n);
-        show_change(out, &mut layer, k, Change::Carry(0));
+        let k = session.dice.below(m);
+        let amount = session.dice.below(2) as u32;
+        show_change(session.out, &mut layer, k, Change::Carry(amount));
+        layer.draw_entry(session, n);
+        show_change(session.out, &mut layer, k, Change::Carry(0));
     }
     layer
 }
 
 // Calls carry or limit once.
-pub fn draw_call<N: Network>(out: &mut Out, dice: &mut Dice, net: &mut N) {
+pub fn draw_call<N: Network>(session: &mut Session<'_>, net: &mut N) {
+    let dice = &mut session.dice;
     let carries = dice.below(2) == 0;
     let k = dice.below(net.size().reaches + 1);
     let x = draw_amount(dice);
@@ -114,5 +123,5 @@ pub fn draw_call<N: Network>(out: &mut Out, dice: &mut Dice, net: &mut N) {
     } else {
         Change::Limit(x)
     };
-    show_change(out, net, k, change);
+    show_change(session.out, net, k, change);
 }

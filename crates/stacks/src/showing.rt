@@ -6,6 +6,7 @@ use chambers::Chambers;
 use gathering::{Gathering, Role};
 use network::{Change, Network, Reaches, Touching};
 
+// The word for a change in a line, and the number that stands apart from it there, as no `Display` would have it.
 fn word_of_change(change: Change) -> (&'static str, u32) {
     match change {
         Change::Carry(amount) => ("carry", amount),
@@ -23,9 +24,10 @@ pub fn show_change<N: Network>(out: &mut Out, net: &mut N, k: usize, change: Cha
 // Enters a chamber.
 pub fn show_chamber<N: Network>(out: &mut Out, layer: &mut Chambers<N>, v: u16, q: u32) {
     let answer = layer.enter(v, q);
-    write_call(out, "chamber", v as usize, Some(q), answer);
+    write_call(out, "chamber", usize::from(v), Some(q), answer);
 }
 
+// The word for a role in a line of this program; the library prints none.
 fn word_of(role: Role) -> &'static str {
     match role {
         Role::Source => "source",
@@ -42,7 +44,7 @@ pub fn show_feeder<N: Network>(
     stated: Option<u32>,
 ) {
     let answer = layer.enter(role, v, stated);
-    write_call(out, word_of(role), v as usize, stated, answer);
+    write_call(out, word_of(role), usize::from(v), stated, answer);
 }
 
 pub fn show_size<N: Network>(out: &mut Out, net: &N) {

@@ -1,6 +1,6 @@
 // Four layers over a drawn table.
 use crate::dice::Dice;
-use crate::drawn::{draw_call, draw_layer, draw_table};
+use crate::drawn::{Session, draw_call, draw_layer, draw_table};
 use crate::lines::write_line;
 use crate::out::Out;
 use crate::showing::{show_network, show_reaches};
@@ -22,34 +22,37 @@ const MOST_FEEDERS: usize = 5;
 const CALLS: usize = 6;
 
 // Prints what a network is, makes calls, and prints what it then carries and delivers.
-fn show_in_use<N: Network>(out: &mut Out, dice: &mut Dice, net: &mut N) {
-    show_network(out, net);
+fn show_in_use<N: Network>(session: &mut Session<'_>, net: &mut N) {
+    show_network(session.out, net);
     for _ in 0..CALLS {
-        draw_call(out, dice, net);
+        draw_call(session, net);
     }
-    show_reaches(out, net);
-    write_line(out, "tally", tally(net));
+    show_reaches(session.out, net);
+    write_line(session.out, "tally", tally(net));
 }
 
 // Puts the upper two layers over a network, and uses the whole.
-fn show_upper_layers<N: Network + Drop>(out: &mut Out, dice: &mut Dice, net: N) {
-    let net: Chambers<N> = draw_layer(out, dice, net, MOST_CHAMBERS);
-    let mut net: Gathering<Chambers<N>> = draw_layer(out, dice, net, MOST_FEEDERS);
-    show_in_use(out, dice, &mut net);
+fn show_upper_layers<N: Network + Drop>(session: &mut Session<'_>, net: N) {
+    let net: Chambers<N> = draw_layer(session, net, MOST_CHAMBERS);
+    let mut net: Gathering<Chambers<N>> = draw_layer(session, net, MOST_FEEDERS);
+    show_in_use(session, &mut net);
 }
 
 // Puts four layers over a network, and uses the whole.
-fn show_layers<N: Network + Drop>(out: &mut Out, dice: &mut Dice, net: N) {
-    let net: Chambers<N> = draw_layer(out, dice, net, MOST_CHAMBERS);
-    let net: Gathering<Chambers<N>> = draw_layer(out, dice, net, MOST_FEEDERS);
-    show_upper_layers(out, dice, net);
+fn show_layers<N: Network + Drop>(session: &mut Session<'_>, net: N) {
+    let net: Chambers<N> = draw_layer(session, net, MOST_CHAMBERS);
+    let net: Gathering<Chambers<N>> = draw_layer(session, net, MOST_FEEDERS);
+    show_upper_layers(session, net);
 }
 
 // Draws the stack of a number, and prints it.
 pub fn show_stack(out: &mut Out, number: u32) {
     write_line(out, "stack", number);
-    let mut dice = Dice::new(SEED + number as u64);
+    let mut session = Session {
+        out,
+        dice: Dice::new(SEED + u64::from(number)),
+    };
     let mut rows = [Row::default(); 8];
-    let table = draw_table(&mut dice, &mut rows);
-    show_layers(out, &mut dice, table);
+    let table = draw_table(&mut session.dice, &mut rows);
+    show_layers(&mut session, table);
 }

@@ -9,6 +9,8 @@ use gathering::{Gathering, Role};
 use network::{Network, Row};
 use table::{Draft, Table};
 
+// The functions for the two layers stay two each below: what they enter differs, and a trait for it would be longer.
+
 // Puts chambers at the first 32 junctions, which are as many as a layer may have.
 fn fill_chambers<N: Network>(net: N) -> Chambers<N> {
     let mut layer = Chambers::new(net);

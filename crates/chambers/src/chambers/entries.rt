@@ -8,7 +8,7 @@ ghost use Rattle.chambers.specs.Standing.{chambers_net};
 use crate::chambers::Chambers;
 use crate::chambers::twins::has_twin;
 use layer::{Extended, carries_any, is_crowded};
-use network::bounds::HIGHEST_SETTING;
+use network::bounds::{HIGHEST_SETTING, MOST_JUNCTIONS};
 use network::{Network, Reach};
 use refusal::{Fault, Part, Refusal};
 
@@ -24,7 +24,7 @@ impl<N: Network> Chambers<N> {
     {
         Chambers {
             extended: Extended::new(below),
-            twins: [None; 512],
+            twins: [None; MOST_JUNCTIONS],
         }
     }
 

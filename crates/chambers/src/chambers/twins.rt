@@ -1,4 +1,5 @@
-// Twins of junctions, by the junction's number.
+// Twins of junctions, by the junction's number. (That the number is in the array stands in two clauses, and not in a type
+// for such a number: the callers would make one for each call, from what they know of the junction.)
 ghost use Rattle.std.specs.Prelude.{◌≡◌, ◌<◌, length, is_some, None, slice_index_or};
 ghost use Rattle.layer.specs.Chambered.{or_self};
 
