@@ -21,7 +21,7 @@ pub const MOST_OWN: usize = 32;
 pub struct NotInserted;
 
 // Plain rows, each of which holds a reach, numbered from 0.
-#[derive(Drop)]
+#[derive(Clone, Drop)]
 pub struct OwnRows {
     rows: ArrayVec<Row, MOST_OWN>,
 }
