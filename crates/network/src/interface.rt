@@ -35,7 +35,7 @@ pub trait Network {
     fn touch(&self, junction: u16, k: usize) -> Option<usize>
         ensures { Touched junction (meaning self.now).reaches k result }
     {
-        // By number, and not by `Reaches`: the body of a trait's method cannot hand itself to code over any network.
+        // By number: `Reaches::of(self)` gets no proof in a trait's body, since "it passes on a bound that gives less than is asked".
         for i in k..self.size().reaches {
             if self.reach(i).unwrap().touches(junction) {
                 return Some(i);

@@ -27,7 +27,8 @@ impl Row {
         self.tail == junction || self.head == junction
     }
 
-    // The row with one of its numbers set, or the refusal of the part that answers for it.
+    // The row with one of its numbers set, or the refusal of the part that answers for it. (Change and part are no struct:
+    // the one says what is set and comes from the caller, the other who answers and comes from where the row stands.)
     pub fn change(self, change: Change, part: Part) -> Result<Row, Refusal>
         ensures { Remade change self part result }
     {
