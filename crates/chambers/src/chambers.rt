@@ -18,8 +18,8 @@ mod twins;
 pub struct Chambers<N: Network> {
     // the network below, and the chambers' reaches, each from a junction of it to the junction's twin
     extended: Extended<N>,
-    // the twin of each junction of the network below, where it has a chamber (an array, and not a map: the library has
-    // no heap)
+    // the twin of each junction of the network below, where it has a chamber: what the reaches say, kept so that it is told
+    // in a constant number of steps (in an array, and not in a map: the library has no heap)
     twins: [Option<u16>; MOST_JUNCTIONS],
     // the chambers fit the network below
     ghost fit: { Chambering (N.meaning extended.below).junctions (length (N.meaning extended.below).reaches)

@@ -36,7 +36,8 @@ pub struct Desk<'a, N: Network> {
     phase: Phase,
 }
 
-// The next command and the place of its record, or nothing at the end. Records that give no command are refused.
+// The next command and the place of its record, or nothing at the end. Records that give no command are refused. (The two
+// are no struct: the place is the reader's, and is only put on a refusal.)
 fn next_command(reader: &mut Reader<'_>) -> Result<Option<(Command, usize)>, Refusal>
     ensures { asked (ahead reader.old) ≡ asked_as result (asked (ahead reader.new)) }
 {

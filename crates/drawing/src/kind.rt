@@ -101,9 +101,6 @@ impl Stage {
     pub fn may_end(self) -> bool
         ensures { result ≡ ends self }
     {
-        match self {
-            Stage::Start | Stage::Table => false,
-            Stage::Chambers | Stage::Gathering | Stage::Commands => true,
-        }
+        !matches!(self, Stage::Start | Stage::Table)
     }
 }

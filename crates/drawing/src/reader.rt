@@ -21,7 +21,7 @@ pub struct Reader<'a> {
     // where the next record begins
     place: usize,
     stage: Stage,
-    // how many junctions the shape stated
+    // how many junctions the shape stated, and 0 before it, when nothing asks
     junctions: u16,
 }
 

@@ -3,5 +3,4 @@
 
 pub mod reading;
 
-pub use reading::{enter_chambers, enter_feeders};
-pub use refusal::located;
+pub use reading::{enter_chambers, enter_feeders, located};

@@ -16,7 +16,8 @@ use chambers::Chambers;
 use drawing::{Reader, Record};
 use gathering::{Gathering, Role};
 use network::Network;
-use refusal::{Refusal, located};
+use refusal::Refusal;
+pub use refusal::located;
 
 // Enters the chambers that the reader has next, up to another record.
 pub fn enter_chambers<N: Network>(

@@ -15,7 +15,7 @@ pub mod entries;
 #[derive(Drop)]
 pub struct Gathering<N: Network> {
     // the network below, and the feeders: those of the sources in the order given, then those of the sinks in the
-    // order given
+    // order given (one list with a count, and not two lists: a feeder's place in it is its number)
     extended: Extended<N>,
     // how many sources there are
     sources: usize,

@@ -21,13 +21,13 @@ pub struct Extended<N: Network> {
 }
 
 impl<N: Network> Extended<N> {
-    ghost use Rattle.std.specs.Prelude.{◌<◌, ◌≤◌, ℕ, [], length, IsOk, ◌↔◌};
+    ghost use Rattle.std.specs.Prelude.{◌<◌, ◌≤◌, ℕ, [], length};
     ghost use Rattle.std.specs.List.{insert};
     ghost use Rattle.refusal.specs.Checks.{afterwards};
     ghost use Rattle.network.specs.Answers.{Told, arc_in};
     ghost use Rattle.network.specs.Touching.{Touched};
     ghost use Rattle.layer.specs.Bounds.{most_own};
-    ghost use Rattle.layer.specs.Keeping.{SameEnds};
+    ghost use Rattle.layer.specs.Keeping.{SameEnds, Insertion};
     ghost use Rattle.layer.specs.Extending.{all_reaches, extended_giver, ExtendedChange, TouchedBehind};
 
     // The network below, and no reach more.
@@ -50,10 +50,10 @@ impl<N: Network> Extended<N> {
         if k < self.base.reaches {
             return self.below.reach(k);
         }
-        match self.own.row(k - self.base.reaches) {
-            Some(row) => Ok(Reach::try_from(row).unwrap()),
-            None => Err(Refusal::new(Fault::NoReach, Part::Network)),
-        }
+        let refusal = Refusal::new(Fault::NoReach, Part::Network);
+        let row = self.own.row(k - self.base.reaches).ok_or(refusal)?;
+        // No row that was put in breaks a bound.
+        Ok(Reach::try_from(row).unwrap())
     }
 
     // The lowest number from k on of one of the layer's own reaches that has the junction at an end, if there is one.
@@ -70,10 +70,9 @@ impl<N: Network> Extended<N> {
     pub fn touch(&self, junction: u16, k: usize) -> Option<usize>
         ensures { Touched junction (all_reaches self.now) k result }
     {
-        match self.below.touch(junction, k) {
-            Some(i) => Some(i),
-            None => self.touch_own(junction, k),
-        }
+        self.below
+            .touch(junction, k)
+            .or_else(|| self.touch_own(junction, k))
     }
 
     // Sets one number of reach k. The part answers for the layer's own reaches.
@@ -93,7 +92,7 @@ impl<N: Network> Extended<N> {
     // Puts one more reach before the layer's reach `at`, or behind all where `at` is their number. Nothing is changed
     // where there is no room or `at` is a higher number.
     pub fn insert(&mut self, at: usize, reach: Reach) -> Result<(), NotInserted>
-        ensures told { IsOk result ↔ ((length (own_arcs self.old.own) < most_own) × (at ≤ length (own_arcs self.old.own))) }
+        ensures told { Insertion (length (own_arcs self.old.own)) at result }
         ensures own { own_arcs self.new.own ≡ afterwards result (insert (own_arcs self.old.own) at (arc_in reach))
             (own_arcs self.old.own) }
         ensures below { self.new.below ≡ self.old.below }

@@ -1,12 +1,12 @@
 // The rows that a layer keeps for the reaches that it adds.
-ghost use Rattle.std.specs.Prelude.{◌≡◌, ◌<◌, ◌≤◌, [], length, IfSome, IsOk, ◌↔◌};
+ghost use Rattle.std.specs.Prelude.{◌≡◌, ◌<◌, ◌≤◌, [], length, IfSome};
 ghost use Rattle.std.specs.List.{insert};
 ghost use Rattle.refusal.specs.Checks.{afterwards};
 ghost use Rattle.network.specs.Rows.{arc_of_row};
 ghost use Rattle.network.specs.Touching.{Touched};
 ghost use Rattle.network.specs.Changing.{ChangedIn};
 ghost use Rattle.layer.specs.Bounds.{most_own};
-ghost use Rattle.layer.specs.Keeping.{own_arcs, RowAt};
+ghost use Rattle.layer.specs.Keeping.{own_arcs, RowAt, Insertion};
 
 use arrayvec::ArrayVec;
 use network::rows::{change_in, touch_in};
@@ -16,9 +16,14 @@ use refusal::{Part, Refusal};
 // The most reaches that one layer may add.
 pub const MOST_OWN: usize = 32;
 
-// Why a reach is not put in: no place is left, or its place would be behind the end.
+// Why a reach is not put in.
 #[derive(Clone, Copy, PartialEq, Eq, Debug)]
-pub struct NotInserted;
+pub enum NotInserted {
+    // no place is left
+    NoPlace,
+    // its place would be behind the end
+    BehindTheEnd,
+}
 
 // Plain rows, each of which holds a reach, numbered from 0.
 #[derive(Clone, Drop)]
@@ -70,13 +75,16 @@ impl OwnRows {
     // Puts one more reach before reach `at`, or behind all where `at` is their number. The reaches from `at` on move up
     // by one number. Nothing is changed where there is no room or `at` is a higher number.
     pub fn insert(&mut self, at: usize, row: Row) -> Result<(), NotInserted>
-        ensures told { IsOk result ↔ ((length (own_arcs self.old) < most_own) × (at ≤ length (own_arcs self.old))) }
+        ensures told { Insertion (length (own_arcs self.old)) at result }
         ensures own { own_arcs self.new ≡ afterwards result (insert (own_arcs self.old) at (arc_of_row row))
             (own_arcs self.old) }
         ensures refused { self.new ≡ afterwards result self.new self.old }
     {
-        if self.rows.is_full() || at > self.rows.len() {
-            return Err(NotInserted);
+        if self.rows.is_full() {
+            return Err(NotInserted::NoPlace);
+        }
+        if at > self.rows.len() {
+            return Err(NotInserted::BehindTheEnd);
         }
         self.rows.insert(at, row);
         Ok(())

@@ -31,11 +31,13 @@ pub trait Network {
     fn reach(&self, k: usize) -> Result<Reach, Refusal>
         ensures { Told (meaning self.now).reaches k result };
 
-    // The lowest reach number from k on whose reach has the junction as tail or head, if there is one.
+    // The lowest reach number from k on whose reach has the junction as tail or head, if there is one. (Junction and number
+    // are no struct: who asks on goes on from another number at the same junction.)
     fn touch(&self, junction: u16, k: usize) -> Option<usize>
         ensures { Touched junction (meaning self.now).reaches k result }
     {
-        // By number: `Reaches::of(self)` gets no proof in a trait's body, since "it passes on a bound that gives less than is asked".
+        // Not by `Reaches::of(self)`, which gets no proof in a trait's body ("it passes on a bound that gives less than is
+        // asked"), nor by `find` on the range, whose closure leaves `unwrap-requires` open.
         for i in k..self.size().reaches {
             if self.reach(i).unwrap().touches(junction) {
                 return Some(i);

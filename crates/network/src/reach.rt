@@ -28,7 +28,8 @@ impl Reach {
     ghost use Rattle.network.specs.Answers.{arc_in};
     ghost use Rattle.network.specs.Touching.{Touches};
 
-    // How much more a step along this reach can take: forward what is left of the limit, back what is carried.
+    // How much more a step along this reach can take: forward what is left of the limit, back what is carried. (The way is a
+    // bool, and no type: a step tells it by its parity, as `step % 2 == 1`.)
     pub fn headroom(self, back: bool) -> u32
         ensures { result ≡ (if back then self.carried else self.limit - self.carried) }
     {

@@ -15,7 +15,8 @@ impl Dice {
         dice
     }
 
-    // The next number, which is below the bound.
+    // The next number, which is below the bound. (That a bound is above 0 stands in clauses of three functions of this program,
+    // and not in a type: callers have it as a literal, or as a sum with one.)
     pub fn below(&mut self, bound: usize) -> usize
         requires { 0 < bound }
         ensures { result < bound }

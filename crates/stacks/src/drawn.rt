@@ -16,7 +16,7 @@ pub struct Session<'a> {
     pub dice: Dice,
 }
 
-// A junction below n.
+// A junction below n. (`as`, here and below: what the dice give is below a small bound.)
 fn draw_junction(dice: &mut Dice, n: u16) -> u16
     requires { 0 < n }
     ensures { result < n }

@@ -19,15 +19,11 @@ impl Out {
         })
     }
 
-    pub fn print<D: Display + Drop>(&mut self, value: D) {
-        if self.written.is_ok() {
-            self.written = self.buffer.write_fmt(value);
-        }
-    }
-
     // What `write!` and `writeln!` call.
     pub fn write_fmt<D: Display + Drop>(&mut self, text: D) {
-        self.print(text);
+        if self.written.is_ok() {
+            self.written = self.buffer.write_fmt(text);
+        }
     }
 
     // Whether all was written.

@@ -60,13 +60,11 @@ pub fn show_reaches<N: Network>(out: &mut Out, net: &N) {
 
 // The numbers of the reaches that touch a junction.
 fn show_touches<N: Network>(out: &mut Out, net: &N, v: u16) {
-    out.print("touch ");
-    out.print(v);
+    write!(out, "touch {v}");
     for k in Touching::from(net, v, 0) {
-        out.print(" ");
-        out.print(k);
+        write!(out, " {k}");
     }
-    out.print("\n");
+    writeln!(out);
 }
 
 // The whole network: its size, its reaches, and what touches each junction and the number after the last.

@@ -48,7 +48,7 @@ fn show_one_source<N: Network>(out: &mut Out, net: N) -> Gathering<N> {
     layer
 }
 
-// What is built over a network. One of these holds what comes after it, so that a tower may be high while no function
+// (A trait, since its method is generic, which no closure is.) What is built over a network. One of these holds what comes after it, so that a tower may be high while no function
 // has more than two layers in its types.
 trait Above {
     fn build<N: Network + Drop>(self, out: &mut Out, net: N);

@@ -45,7 +45,7 @@ impl<N: Network> Network for Chambers<N> {
         let base = self.extended.base;
         let count = self.extended.own.count();
         Size {
-            junctions: base.junctions + count as u16,
+            junctions: base.junctions + u16::try_from(count).unwrap(),
             reaches: base.reaches + count,
             intake: base.intake,
             outfall: left_from(&self.twins, base.outfall),
@@ -57,6 +57,7 @@ impl<N: Network> Network for Chambers<N> {
         if k >= self.extended.base.reaches {
             return Ok(reach);
         }
+        // All fields: `..` is not for a type with ghost fields.
         Ok(Reach {
             tail: left_from(&self.twins, reach.tail),
             head: reach.head,
@@ -66,10 +67,8 @@ impl<N: Network> Network for Chambers<N> {
     }
 
     fn touch(&self, junction: u16, k: usize) -> Option<usize> {
-        match self.touch_below(junction, k) {
-            Some(i) => Some(i),
-            None => self.extended.touch_own(junction, k),
-        }
+        self.touch_below(junction, k)
+            .or_else(|| self.extended.touch_own(junction, k))
     }
 
     fn change(&mut self, k: usize, change: Change) -> Result<(), Refusal> {

@@ -28,7 +28,8 @@ impl<N: Network> Chambers<N> {
         }
     }
 
-    // Whether the junction may have a chamber with this limit now.
+    // Whether the junction may have a chamber with this limit now. (Each layer has its list of checks whole, in the order in
+    // which they are stated; the calls that two lists share are in crate `layer`.)
     fn judge(&self, junction: u16, limit: u32) -> Result<(), Refusal>
         ensures { Judged (chamber_checks (N.meaning self.now.extended.below) (own_arcs self.now.extended.own)
             junction limit) result }
@@ -74,7 +75,7 @@ impl<N: Network> Chambers<N> {
     {
         self.judge(junction, limit)?;
         let count = self.extended.own.count();
-        let twin = self.extended.base.junctions + count as u16;
+        let twin = self.extended.base.junctions + u16::try_from(count).unwrap();
         let reach = Reach {
             tail: junction,
             head: twin,

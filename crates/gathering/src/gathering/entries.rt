@@ -96,7 +96,7 @@ impl<N: Network> Gathering<N> {
     }
 
     // Names a junction of the network below as a source or as a sink. Refuses 2, 5, 8, 9 and 14. (Role, junction and limit
-    // are no struct: each caller has the three by name, and would make it for this call alone.)
+    // are no struct: each caller has the three apart, and would put them together for this call and for nothing else.)
     pub fn enter(&mut self, role: Role, junction: u16, stated: Option<u32>) -> Result<(), Refusal>
         ensures judged { Judged
             (gather_checks role (N.meaning self.old.extended.below) (feeders_of self.old) junction stated) result }

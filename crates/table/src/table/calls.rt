@@ -20,9 +20,10 @@ impl<'a> Network for Table<'a> {
     }
 
     fn reach(&self, k: usize) -> Result<Reach, Refusal> {
-        let Some(row) = self.laid.rows[..self.laid.size.reaches].get(k) else {
-            return Err(Refusal::new(Fault::NoReach, Part::Network));
-        };
+        let refusal = Refusal::new(Fault::NoReach, Part::Network);
+        let row = self.laid.rows[..self.laid.size.reaches]
+            .get(k)
+            .ok_or(refusal)?;
         // No row that was laid breaks a bound.
         Ok(Reach::try_from(*row).unwrap())
     }
