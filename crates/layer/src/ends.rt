@@ -29,6 +29,7 @@ impl End {
 pub fn next_at<N: Network>(net: &N, end: End, junction: u16, k: usize) -> Option<usize>
     ensures { FirstFrom (λ a. end_of end a ≡ junction) (N.meaning net.now).reaches k result }
 {
+    // Not by `find`, whose closure leaves `unwrap-requires` open.
     for i in Touching::from(net, junction, k) {
         if end.of(net.reach(i).unwrap()) == junction {
             return Some(i);
