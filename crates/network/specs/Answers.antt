@@ -1,11 +1,13 @@
 -- What size and reach answer.
-use Rattle.std.specs.Prelude.{◌≡◌, ℕ, List, [], ◌∷◌, length, Ok, Err, Result, nat_le}
+use Rattle.std.specs.Prelude.{◌≡◌, ℕ, ◌-◌, List, [], ◌∷◌, length, Ok, Err, Result, nat_le}
 use Rattle.refusal.specs.declared.Refusal.{Refusal}
 use Rattle.refusal.specs.declared.Part.TheVariants.{Network}
 use Rattle.refusal.specs.Checks.{Check, check, Judged}
 use Rattle.flow.specs.Net.{Arc, Net, arc_at}
 use Rattle.network.specs.declared.size.Size.{Size}
 use Rattle.network.specs.declared.reach.Reach.{Reach}
+use Rattle.network.specs.declared.reach.Way.{Way}
+use Rattle.network.specs.declared.reach.Way.TheVariants.{Forth, Back}
 
 -- the size of a network
 abbrev pub size_of : Net → Size
@@ -14,6 +16,11 @@ size_of g = record { junctions = g.junctions; reaches = length g.reaches; intake
 -- the numbers of a record
 abbrev pub arc_in : Reach → Arc
 arc_in r = record { tail = r.tail; head = r.head; limit = r.limit; carried = r.carried }
+
+-- how much more a step can take, each way along a reach
+abbrev pub headroom_of : Way → Arc → ℕ
+headroom_of Forth r = r.limit - r.carried
+headroom_of Back r = r.carried
 
 -- reach k is refused with 4, by the network, where there is no such reach
 abbrev pub reach_checks : List Arc → ℕ → List Check

@@ -14,6 +14,6 @@ pub mod size;
 pub use change::Change;
 pub use going::{Reaches, Touching};
 pub use interface::Network;
-pub use reach::{BrokenBound, Reach};
+pub use reach::{BrokenBound, Reach, Way};
 pub use row::Row;
 pub use size::Size;

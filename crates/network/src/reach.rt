@@ -16,6 +16,13 @@ pub struct Reach {
     ghost bounded: { limit ≤ highest_limit },
 }
 
+// A way along a reach: from its tail to its head, or back.
+#[derive(Clone, Copy, PartialEq, Eq, Debug)]
+pub enum Way {
+    Forth,
+    Back,
+}
+
 // A bound of records that a row breaks.
 #[derive(Clone, Copy, PartialEq, Eq, Debug)]
 pub enum BrokenBound {
@@ -24,19 +31,17 @@ pub enum BrokenBound {
 }
 
 impl Reach {
-    ghost use Rattle.std.specs.Prelude.{◌≡◌, ◌-◌, if◌then◌else◌, ◌↔◌, IsTrue};
-    ghost use Rattle.network.specs.Answers.{arc_in};
+    ghost use Rattle.std.specs.Prelude.{◌≡◌, ◌↔◌, IsTrue};
+    ghost use Rattle.network.specs.Answers.{arc_in, headroom_of};
     ghost use Rattle.network.specs.Touching.{Touches};
 
-    // How much more a step along this reach can take: forward what is left of the limit, back what is carried. (The way is a
-    // bool, and no type: a step tells it by its parity, as `step % 2 == 1`.)
-    pub fn headroom(self, back: bool) -> u32
-        ensures { result ≡ (if back then self.carried else self.limit - self.carried) }
+    // How much more a step along this reach can take: forth what is left of the limit, back what is carried.
+    pub fn headroom(self, way: Way) -> u32
+        ensures { result ≡ headroom_of way (arc_in self) }
     {
-        if back {
-            self.carried
-        } else {
-            self.limit - self.carried
+        match way {
+            Way::Forth => self.limit - self.carried,
+            Way::Back => self.carried,
         }
     }
 

@@ -52,10 +52,16 @@ pub fn draw_table<'a>(dice: &mut Dice, rows: &'a mut [Row]) -> Table<'a> {
     draft.commission()
 }
 
-// A layer over a network of type N, for which entries are drawn.
+// A layer over a network of type N, for which entries are drawn and tried.
 pub trait Layer<N>: Network {
     // The layer without an entry.
     fn over(below: N) -> Self;
+
+    // Makes as many entries as a layer may have.
+    fn fill(&mut self);
+
+    // Tries one entry, and prints the answer.
+    fn show_one_entry(&mut self, out: &mut Out);
 
     // Draws an entry over a network of n junctions, enters it, and prints the answer.
     fn draw_entry(&mut self, session: &mut Session<'_>, n: u16);
@@ -64,6 +70,17 @@ pub trait Layer<N>: Network {
 impl<N: Network> Layer<N> for Chambers<N> {
     fn over(below: N) -> Chambers<N> {
         Chambers::new(below)
+    }
+
+    // At the first 32 junctions.
+    fn fill(&mut self) {
+        for v in 0..32 {
+            let _ = self.enter(v, 1000);
+        }
+    }
+
+    fn show_one_entry(&mut self, out: &mut Out) {
+        show_chamber(out, self, 0, 1000);
     }
 
     fn draw_entry(&mut self, session: &mut Session<'_>, n: u16) {
@@ -76,6 +93,20 @@ impl<N: Network> Layer<N> for Chambers<N> {
 impl<N: Network> Layer<N> for Gathering<N> {
     fn over(below: N) -> Gathering<N> {
         Gathering::new(below)
+    }
+
+    // Sixteen sources and sixteen sinks.
+    fn fill(&mut self) {
+        for _ in 0..16 {
+            let _ = self.enter(Role::Source, 0, None);
+        }
+        for _ in 0..16 {
+            let _ = self.enter(Role::Sink, 1, None);
+        }
+    }
+
+    fn show_one_entry(&mut self, out: &mut Out) {
+        show_feeder(out, self, Role::Source, 0, None);
     }
 
     fn draw_entry(&mut self, session: &mut Session<'_>, n: u16) {

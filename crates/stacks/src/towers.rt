@@ -1,49 +1,26 @@
 // Two towers of full layers, which come to as many junctions and to as many reaches as a network may have.
 ghost use Rattle.std.specs.Prelude.{◌≤◌};
 
+use crate::drawn::Layer;
 use crate::lines::write_line;
 use crate::out::Out;
-use crate::showing::{show_chamber, show_feeder, show_size};
+use crate::showing::show_size;
 use chambers::Chambers;
-use gathering::{Gathering, Role};
+use gathering::Gathering;
 use network::{Network, Row};
 use table::{Draft, Table};
 
-// The functions for the two layers stay two each below: what they enter differs, and a trait for it would be longer.
-
-// Puts chambers at the first 32 junctions, which are as many as a layer may have.
-fn fill_chambers<N: Network>(net: N) -> Chambers<N> {
-    let mut layer = Chambers::new(net);
-    for v in 0..32 {
-        let _ = layer.enter(v, 1000);
-    }
+// Puts a layer over a network, with as many entries as it may have.
+fn full_layer<N: Network, L: Layer<N>>(net: N) -> L {
+    let mut layer = L::over(net);
+    layer.fill();
     layer
 }
 
-// Gathers sixteen sources and sixteen sinks, which are as many as a layer may have.
-fn fill_gathering<N: Network>(net: N) -> Gathering<N> {
-    let mut layer = Gathering::new(net);
-    for _ in 0..16 {
-        let _ = layer.enter(Role::Source, 0, None);
-    }
-    for _ in 0..16 {
-        let _ = layer.enter(Role::Sink, 1, None);
-    }
-    layer
-}
-
-// Tries one chamber, and prints the size.
-fn show_one_chamber<N: Network>(out: &mut Out, net: N) -> Chambers<N> {
-    let mut layer = Chambers::new(net);
-    show_chamber(out, &mut layer, 0, 1000);
-    show_size(out, &layer);
-    layer
-}
-
-// Tries one source, and prints the size.
-fn show_one_source<N: Network>(out: &mut Out, net: N) -> Gathering<N> {
-    let mut layer = Gathering::new(net);
-    show_feeder(out, &mut layer, Role::Source, 0, None);
+// Puts a layer over a network, tries one entry, and prints the size.
+fn show_one<N: Network, L: Layer<N>>(out: &mut Out, net: N) -> L {
+    let mut layer = L::over(net);
+    layer.show_one_entry(out);
     show_size(out, &layer);
     layer
 }
@@ -60,7 +37,7 @@ struct Chambered<A>(A);
 impl<A: Above> Above for Chambered<A> {
     fn build<N: Network + Drop>(self, out: &mut Out, net: N) {
         let Chambered(above) = self;
-        let layer = fill_chambers(net);
+        let layer: Chambers<N> = full_layer(net);
         show_size(out, &layer);
         above.build(out, layer);
     }
@@ -72,7 +49,8 @@ struct Gathered<A>(A);
 impl<A: Above> Above for Gathered<A> {
     fn build<N: Network + Drop>(self, out: &mut Out, net: N) {
         let Gathered(above) = self;
-        above.build(out, fill_gathering(net));
+        let layer: Gathering<N> = full_layer(net);
+        above.build(out, layer);
     }
 }
 
@@ -94,8 +72,8 @@ struct NoJunctionLeft;
 impl Above for NoJunctionLeft {
     fn build<N: Network + Drop>(self, out: &mut Out, net: N) {
         let NoJunctionLeft = self;
-        let net = show_one_chamber(out, net);
-        let _ = show_one_source(out, net);
+        let net: Chambers<N> = show_one(out, net);
+        let _: Gathering<Chambers<N>> = show_one(out, net);
     }
 }
 
@@ -106,8 +84,8 @@ impl Above for NoReachLeft {
     fn build<N: Network + Drop>(self, out: &mut Out, net: N) {
         let NoReachLeft = self;
         show_size(out, &net);
-        let net = show_one_source(out, net);
-        let _ = show_one_chamber(out, net);
+        let net: Gathering<N> = show_one(out, net);
+        let _: Chambers<Gathering<N>> = show_one(out, net);
     }
 }
 
