@@ -21,12 +21,11 @@ pub struct Extended<N: Network> {
 }
 
 impl<N: Network> Extended<N> {
-    ghost use Rattle.std.specs.Prelude.{◌<◌, ◌≤◌, ℕ, [], length};
+    ghost use Rattle.std.specs.Prelude.{ℕ, [], length};
     ghost use Rattle.std.specs.List.{insert};
     ghost use Rattle.refusal.specs.Checks.{afterwards};
     ghost use Rattle.network.specs.Answers.{Told, arc_in};
     ghost use Rattle.network.specs.Touching.{Touched};
-    ghost use Rattle.layer.specs.Bounds.{most_own};
     ghost use Rattle.layer.specs.Keeping.{SameEnds, Insertion};
     ghost use Rattle.layer.specs.Extending.{all_reaches, extended_giver, ExtendedChange, TouchedBehind};
 

@@ -25,8 +25,8 @@ fn show_one<N: Network, L: Layer<N>>(out: &mut Out, net: N) -> L {
     layer
 }
 
-// (A trait, since its method is generic, which no closure is.) What is built over a network. One of these holds what comes after it, so that a tower may be high while no function
-// has more than two layers in its types.
+// What is built over a network. One of these holds what comes after it, so that a tower may be high while no function
+// has more than two layers in its types. (A trait, since its method is generic, which no closure is.)
 trait Above {
     fn build<N: Network + Drop>(self, out: &mut Out, net: N);
 }
