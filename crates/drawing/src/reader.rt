@@ -21,7 +21,8 @@ pub struct Reader<'a> {
     // where the next record begins
     place: usize,
     stage: Stage,
-    // how many junctions the shape stated, and 0 before it, when nothing asks
+    // how many junctions the shape stated, and 0 before it (no Option, and no part of the stage: nothing asks before the
+    // shape, and afterwards all would have to take it apart)
     junctions: u16,
 }
 

@@ -17,7 +17,8 @@ use network::Row;
 use refusal::{Fault, Part, Refusal, located};
 use table::{Draft, Table};
 
-// Enters one record of the table, which is not its end, into the draft.
+// Enters one record of the table, which is not its end, into the draft. (Its place is apart from it: it is the reader's,
+// and only a refusal gets it.)
 fn enter(draft: &mut Draft<'_>, item: Record<'_>, place: usize) -> Result<(), Refusal>
     requires { said item ≢ table_end }
     ensures net { Entered (places_in draft.old.rows.now) (said item.entry) place
