@@ -1,8 +1,7 @@
 -- Sums over reaches.
-use Rattle.std.proofs.Common.{◌≡◌, ℕ, zero, suc, ◌+◌, ◌*◌, ◌<◌, ◌≤◌, ◌≢◌, List, [], ◌∷◌, ◌++◌, map, length, take, refl, ap, ◌∙◌, arith}
+use Rattle.std.proofs.Common.{◌≡◌, ℕ, zero, suc, ◌+◌, ◌*◌, ◌<◌, ◌≤◌, ◌≢◌, List, [], ◌∷◌, ◌++◌, map, length, refl, arith}
 use Rattle.std.specs.List.{All}
 use Rattle.std.proofs.lemmas.List.Elements.{All-from_get_or}
-use Rattle.std.proofs.lemmas.List.{take_more}
 use Rattle.std.proofs.lemmas.Bool.Decides.{nat_tests}
 use Rattle.flow.specs.Net.{Arc, no_arc, arc_at}
 use Rattle.flow.specs.Flows.{sum_of, out_of, into}
@@ -10,11 +9,6 @@ use Rattle.flow.specs.Flows.{sum_of, out_of, into}
 pub sum_of-push : (f : Arc → ℕ) (rs : List Arc) (r : Arc) → sum_of f (rs ++ r ∷ []) ≡ sum_of f rs + f r
 sum_of-push f [] r = omega arith
 sum_of-push f (q ∷ rs) r = omega (arith, sum_of-push f rs r)
-
--- a loop's step
-pub sum_of-more : (f : Arc → ℕ) (rs : List Arc) (k : ℕ) → k < length rs →
-    sum_of f (take (k + 1) rs) ≡ sum_of f (take k rs) + f (arc_at rs k)
-sum_of-more f rs k low = ap (sum_of f) (take_more rs k no_arc low) ∙ sum_of-push f (take k rs) (arc_at rs k)
 
 -- a sum of numbers that are at most c each
 pub sum_of-le : (f : Arc → ℕ) (c : ℕ) (rs : List Arc) → All (λ r. f r ≤ c) rs → sum_of f rs ≤ c * length rs

@@ -1,8 +1,7 @@
 -- The checks of an entry: what they come to, and what is known where none of them applies.
-use Rattle.std.proofs.Common.{◌≡◌, ℕ, ◌+◌, ◌<◌, ◌≤◌, true, false, length, Some, None, Option, arith}
+use Rattle.std.proofs.Common.{◌≡◌, ℕ, ◌+◌, ◌<◌, ◌≤◌, false, length, Some, None, Option, arith}
 use Rattle.std.proofs.lemmas.Bool.{ltb-false}
 use Rattle.std.proofs.lemmas.Bool.Decides.{nat_tests}
-use Rattle.refusal.specs.declared.Part.TheVariants as parts
 use Rattle.refusal.specs.Checks.{first_of}
 use Rattle.flow.specs.Bounds.{most_junctions, most_reaches, highest_setting, highest_limit}
 use Rattle.flow.specs.Net.{Net}
@@ -14,22 +13,11 @@ use Rattle.gathering.specs.Bounds.{most_of_each}
 use Rattle.gathering.specs.Entering.{Feeders, listed, of_role, limit_of, too_high, gather_checks}
 
 module _ (role : Role) (g : Net) (fs : Feeders) (v : ℕ) (stated : Option ℕ) where
-  -- where the first three checks pass
-  module _ (inside : v < g.junctions) (low : too_high stated ≡ false) (room : length (of_role role fs) < most_of_each) where
-    -- the fourth applies
-    pub checks_crowded : crowded (g.junctions + 2) (length g.reaches + length (listed fs) + 1) ≡ true →
-        first_of (gather_checks role g fs v stated) ≡ Some (9, parts.Gathering)
-    checks_crowded full = grind (arith, nat_tests)
-
-    module _ (small : crowded (g.junctions + 2) (length g.reaches + length (listed fs) + 1) ≡ false) where
-      -- the fourth passes too, and the fifth applies
-      pub checks_late : carries_any (gathered g (listed fs)).reaches ≡ true →
-          first_of (gather_checks role g fs v stated) ≡ Some (14, parts.Gathering)
-      checks_late wet = grind (arith, nat_tests)
-
-      -- all five pass
-      pub checks_pass : carries_any (gathered g (listed fs)).reaches ≡ false → first_of (gather_checks role g fs v stated) ≡ None
-      checks_pass dry = grind (arith, nat_tests)
+  -- where the first four checks pass, and no reach carries, all five do
+  pub checks_pass : v < g.junctions → too_high stated ≡ false → length (of_role role fs) < most_of_each →
+      crowded (g.junctions + 2) (length g.reaches + length (listed fs) + 1) ≡ false →
+      carries_any (gathered g (listed fs)).reaches ≡ false → first_of (gather_checks role g fs v stated) ≡ None
+  checks_pass inside low room small dry = grind (arith, nat_tests)
 
   -- what is known of an entry that is accepted
   pub record Accepted : Type 0 where

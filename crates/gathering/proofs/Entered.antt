@@ -1,5 +1,5 @@
 -- One feeder more: where it stands among the others, and that a gathering that accepts it fits still.
-use Rattle.std.proofs.Common.{◌≡◌, ℕ, ◌+◌, ◌<◌, ◌≤◌, List, [], ◌∷◌, ◌++◌, length, take, drop, Option, Ok, Result, sym, refl, ap, ◌∙◌, subst, arith, length-append}
+use Rattle.std.proofs.Common.{◌≡◌, ℕ, ◌+◌, ◌≤◌, List, [], ◌∷◌, ◌++◌, length, take, drop, Option, Ok, Result, sym, refl, ap, ◌∙◌, arith, length-append}
 use Rattle.std.specs.List.{insert}
 use Rattle.std.proofs.lemmas.List.Elements.{All-push}
 use Rattle.std.proofs.lemmas.List.Edits.{length-insert}
@@ -7,12 +7,11 @@ use Rattle.std.proofs.lemmas.List.{append_assoc, length_push, length-take-le, ta
 use Rattle.flow.specs.Net.{Arc, Net}
 use Rattle.refusal.specs.Checks.{afterwards}
 use Rattle.layer.specs.declared.own.NotInserted.{NotInserted}
-use Rattle.layer.specs.Bounds.{most_own}
 use Rattle.layer.specs.Gathered.{SourceArc, SinkArc, FeedersFit}
 use Rattle.gathering.specs.declared.role.Role.{Role}
 use Rattle.gathering.specs.declared.role.Role.TheVariants.{Source, Sink}
 use Rattle.gathering.specs.Bounds.{most_of_each}
-use Rattle.gathering.specs.Entering.{Feeders, of_role, with_feeder, feeder, Placed}
+use Rattle.gathering.specs.Entering.{Feeders, with_feeder, feeder, Placed}
 use Rattle.gathering.proofs.Accepted.{Accepted}
 
 -- a list of feeders, of which the first s are the sources'
@@ -77,11 +76,6 @@ pub record Known (g : Net) (fs : Feeders) : Type 0 where
   pub fit : Fits g fs
 
 module _ (g : Net) (fs : Feeders) (v : ℕ) (stated : Option ℕ) (k : Known g fs) where
-  -- there is room for one more
-  pub room_left : (role : Role) → Accepted role g fs v stated → length fs.sources + length fs.sinks < most_own
-  room_left Source a = omega (arith, a.room, k.few_sinks)
-  room_left Sink a = omega (arith, a.room, k.few_sources)
-
   -- and it is known of the feeders with that of an accepted entry
   pub known_more : (role : Role) → Accepted role g fs v stated → Known g (with_feeder role (feeder role g v stated) fs)
   known_more Source a =

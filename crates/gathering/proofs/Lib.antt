@@ -1,4 +1,3 @@
 pub mod Gathered
-pub mod Feeders
 pub mod Accepted
 pub mod Entered

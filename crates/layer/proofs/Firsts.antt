@@ -6,14 +6,6 @@ use Rattle.flow.specs.Net.{Arc, no_arc, arc_at}
 use Rattle.network.specs.Touching.{NoneFrom, FirstFrom}
 
 module _ (P : Arc → Type 0) (xs ys : List Arc) (k : ℕ) where
-  pub first_in_front : (i : ℕ) → FirstFrom P xs k (Some i) → FirstFrom P (xs ++ ys) k (Some i)
-  first_in_front i h = (
-    h.0,
-    omega (arith, h.1, length-append xs ys),
-    subst P (sym (get_or_append_left xs ys no_arc i h.1)) h.2,
-    λ e from low has. h.3 e from low (subst P (get_or_append_left xs ys no_arc e (omega (arith, h.1))) has),
-  )
-
   -- none in front: the first behind decides, m numbers further on
   module _ (m : ℕ) (long : length xs ≡ m) (none : FirstFrom P xs k None) where
     none_before : (end : ℕ) → NoneFrom P ys (k - m) end → NoneFrom P (xs ++ ys) k (m + end)

@@ -1,7 +1,7 @@
 -- One row more among a layer's rows: what the reaches come to then.
-use Rattle.std.proofs.Common.{◌≡◌, ℕ, List, [], ◌∷◌, ◌++◌, length, take, drop, map, sym, ap, ◌∙◌, arith}
+use Rattle.std.proofs.Common.{◌≡◌, ℕ, List, ◌∷◌, ◌++◌, take, drop, map, sym, ap, ◌∙◌}
 use Rattle.std.specs.List.{insert}
-use Rattle.std.proofs.lemmas.List.{take_all, drop_all, map-append, take-map, drop-map}
+use Rattle.std.proofs.lemmas.List.{map-append, take-map, drop-map}
 use Rattle.flow.specs.Net.{Arc}
 use Rattle.network.specs.declared.row.Row.{Row}
 use Rattle.network.specs.Rows.{arc_of_row, arcs_in}
@@ -12,9 +12,3 @@ arcs_inserted rows at row =
     map-append arc_of_row (take at rows) (row ∷ drop at rows)
     ∙ ap (λ (xs : List Arc). xs ++ (arc_of_row row ∷ map arc_of_row (drop at rows))) (sym (take-map arc_of_row at rows))
     ∙ ap (λ (xs : List Arc). take at (arcs_in rows) ++ (arc_of_row row ∷ xs)) (sym (drop-map arc_of_row at rows))
-
--- behind all
-pub inserted_last : (own : List Arc) (at : ℕ) (x : Arc) → at ≡ length own → insert own at x ≡ own ++ (x ∷ [])
-inserted_last own at x is =
-    ap (λ (xs : List Arc). xs ++ (x ∷ drop at own)) (take_all at own (omega arith))
-    ∙ ap (λ (xs : List Arc). own ++ (x ∷ xs)) (drop_all at own (omega arith))

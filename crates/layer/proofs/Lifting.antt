@@ -1,6 +1,6 @@
 -- The reaches of a layer: those of the network below, each lifted by f, and then the layer's own. What a call on a reach
 -- of either kind comes to on the whole list is proved here once, for every layer.
-use Rattle.std.proofs.Common.{◌≡◌, ℕ, ◌+◌, ◌-◌, ◌<◌, ◌≤◌, cond, ltb, List, ◌++◌, map, length, set, Ok, Err, Result, sym, refl, ap, ◌∙◌, subst, ⊎_elim, arith, length-append}
+use Rattle.std.proofs.Common.{◌≡◌, ℕ, ◌+◌, ◌-◌, ◌<◌, ◌≤◌, ltb, List, ◌++◌, map, length, set, Ok, Err, Result, sym, refl, ap, ◌∙◌, subst, ⊎_elim, arith, length-append}
 use lib.ListN.{length-map}
 use Rattle.std.specs.List.{All}
 use Rattle.std.proofs.lemmas.List.Elements.{All-from_get_or, All-get_or, All-append}
@@ -136,9 +136,3 @@ module _ (part : Part) (g : Net) (giver : ℕ → Part) (k : ℕ) where
 
   pub gives_own : length g.reaches ≤ k → layer_giver part g giver k ≡ part
   gives_own high = cond-false (ltb k (length g.reaches)) (giver k) part (le-ltb k (length g.reaches) high)
-
--- the network below has as many reaches as before, and the same parts answer for them
-pub gives_still : (part : Part) (g after : Net) (giver giver' : ℕ → Part) → length after.reaches ≡ length g.reaches →
-    ((j : ℕ) → giver' j ≡ giver j) → (j : ℕ) → layer_giver part after giver' j ≡ layer_giver part g giver j
-gives_still part g after giver giver' long same j =
-    ap (λ (m : ℕ). cond (ltb j m) (giver' j) part) long ∙ ap (λ (p : Part). cond (ltb j (length g.reaches)) p part) (same j)

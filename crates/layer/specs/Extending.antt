@@ -2,7 +2,7 @@
 use Rattle.std.specs.Prelude.{◌≡◌, ℕ, List, ◌++◌, length, None, Option, Result}
 use Rattle.refusal.specs.declared.Refusal.{Refusal}
 use Rattle.refusal.specs.declared.Part.{Part}
-use Rattle.flow.specs.Net.{Arc, Net}
+use Rattle.flow.specs.Net.{Arc}
 use Rattle.network.specs.declared.interface.Network.{Ghosts}
 use Rattle.network.specs.declared.change.Change.{Change}
 use Rattle.network.specs.Touching.{Touched}

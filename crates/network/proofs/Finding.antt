@@ -2,7 +2,7 @@
 use Rattle.std.proofs.Common.{◌≡◌, ℕ, ◌+◌, ◌-◌, ◌<◌, ◌≤◌, List, length, get_or, drop, Some, None, Option, option_map, MatchOption, refl, sym, ap, ◌∙◌, subst, ⊎_elim, arith}
 use Rattle.std.specs.List.{AllWithin, HoldsAt}
 use Rattle.std.proofs.lemmas.List.{get_or-drop, length-drop}
-use Rattle.std.proofs.lemmas.Bool.{cases_lt, cases_order}
+use Rattle.std.proofs.lemmas.Bool.{cases_order}
 use Rattle.std.proofs.lemmas.List.Elements.{All-get_or}
 use Rattle.flow.specs.Net.{Arc, Net, no_arc, arc_at, Joined, Sound}
 use Rattle.network.specs.declared.row.Row.{Row}
@@ -10,13 +10,6 @@ use Rattle.network.specs.Rows.{no_row, arc_of_row, arcs_in}
 use Rattle.network.specs.Touching.{NoneFrom, FirstFrom, Touched}
 use Rattle.network.specs.Laws.{TouchLaws}
 use Rattle.network.proofs.Rowing.{count_in, arc_in_row}
-
--- a loop's step
-pub none_more : (P : Arc → Type 0) (rs : List Arc) (k i : ℕ) → NoneFrom P rs k i → (P (arc_at rs i) → ⊥) → NoneFrom P rs k (i + 1)
-none_more P rs k i none not e from low has =
-    ⊎_elim (λ less. none e from less has)
-    (λ more. let is : e ≡ i = omega arith in not (subst (λ (j : ℕ). P (arc_at rs j)) is has))
-    (cases_lt e i)
 
 -- the first of the rows from k on that has a property holds the first reach that has it
 pub first_in : (P : Arc → Type 0) (rows : List Row) (k : ℕ) (r : Option ℕ) →

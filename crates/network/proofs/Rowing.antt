@@ -1,7 +1,6 @@
 -- The reaches that rows hold: how many, which, and what a write to a row does to them.
-use Rattle.std.proofs.Common.{◌≡◌, ℕ, ◌<◌, min, List, map, length, get_or, take, set, refl, ap, ◌∙◌, arith, length-take, get_or-take}
+use Rattle.std.proofs.Common.{◌≡◌, ℕ, ◌<◌, min, List, length, get_or, take, set, refl, ap, ◌∙◌, arith, length-take, get_or-take}
 use lib.ListN.{length-map}
-use lib.Seq.{take-set-lt}
 use Rattle.std.proofs.Math.ListN.{get_or-map}
 use Rattle.std.proofs.lemmas.List.{map-set}
 use Rattle.flow.specs.Net.{arc_at}
@@ -31,12 +30,6 @@ module _ (rows : List Row) (used : ℕ) where
   arcs_at k low =
       let less : k < used = omega (arith, arcs_length) in
       arc_in_row (take used rows) k ∙ ap arc_of_row (get_or-take used rows k no_row less)
-
-  pub arcs_set : (k : ℕ) (row : Row) → k < length (arcs_of rows used) →
-      arcs_of (set rows k row) used ≡ set (arcs_of rows used) k (arc_of_row row)
-  arcs_set k row low =
-      let less : k < used = omega (arith, arcs_length) in
-      ap arcs_in (take-set-lt used rows k row less) ∙ set_in (take used rows) k row
 
 -- a change of a row is the change of the reach that it holds
 pub arc_changed : (c : Change) (row : Row) → arc_of_row (row_changed c row) ≡ changed c (arc_of_row row)

@@ -1,6 +1,6 @@
 -- Carry and limit: what the outcome of a change is, and that it keeps a network sound.
-use Rattle.std.proofs.Common.{◌≡◌, ℕ, ◌<◌, ◌≤◌, leb, ◌≢◌, List, length, set, Some, None, Ok, Err, Result, sym, ap, ◌∙◌, subst, ⊎_elim, arith, length-set, get_or-set_other, get_or-set_same}
-use Rattle.std.proofs.lemmas.Bool.{cases_eq, cases_lt, le-leb, lt-leb}
+use Rattle.std.proofs.Common.{◌≡◌, ℕ, ◌<◌, ◌≤◌, leb, List, length, Some, None, Ok, Err, Result, sym, ap, ◌∙◌, subst, ⊎_elim, arith, length-set}
+use Rattle.std.proofs.lemmas.Bool.{cases_lt, le-leb, lt-leb}
 use Rattle.std.proofs.lemmas.Bool.Decides.{nat_tests}
 use Rattle.refusal.specs.declared.Refusal.{Refusal}
 use Rattle.refusal.specs.declared.Part.{Part}
@@ -8,11 +8,9 @@ use Rattle.refusal.specs.declared.Part.TheVariants.{Network}
 use Rattle.refusal.specs.Checks.{first_of, afterwards}
 use Rattle.refusal.proofs.Checking.{caught, passed, one_answer}
 use Rattle.flow.specs.Bounds.{highest_limit, highest_setting}
-use Rattle.flow.specs.Net.{Arc, Net, no_arc, arc_at, Sound}
+use Rattle.flow.specs.Net.{Arc, Net, arc_at, Sound}
 use Rattle.flow.specs.Changes.{with_reaches, reach_changed}
 use Rattle.flow.proofs.Changing.{keeps_sound}
-use Rattle.network.specs.declared.size.Size.{Size}
-use Rattle.network.specs.Answers.{size_of}
 use Rattle.network.specs.declared.change.Change.{Change}
 use Rattle.network.specs.declared.change.Change.TheVariants.{Carry, Limit}
 use Rattle.network.specs.Changing.{changed, own_checks, change_checks, ChangedIn, Changed}
@@ -53,11 +51,6 @@ module _ (g : Net) (giver : ℕ → Part) (k : ℕ) (s : Sound g) where
 abbrev pub Bounded : Arc → Type 0
 Bounded r = (r.carried ≤ r.limit) × (r.limit ≤ highest_limit)
 
--- a reach that accepts a change keeps to it
-pub changed_bounded : (c : Change) (r : Arc) (p : Part) → first_of (own_checks c r p) ≡ None → Bounded r → Bounded (changed c r)
-changed_bounded (Carry a) r p none b = (carry_fits a r p none, b.1)
-changed_bounded (Limit q) r p none b = let fits = limit_fits q r p none in (fits.0, omega (arith, fits.1))
-
 -- a change in a network's list is a change of the network
 pub changed_net : (c : Change) (g : Net) (giver : ℕ → Part) (k : ℕ) (r : Result Unit Refusal) (after : List Arc) →
     ChangedIn c g.reaches giver k r after → Changed c g giver k r (with_reaches g after)
@@ -70,29 +63,6 @@ pub changed_length : (c : Change) (rs : List Arc) (giver : ℕ → Part) (k : �
 changed_length c rs giver k (Ok _) after h = ap length h.1 ∙ length-set rs k (changed c (arc_at rs k))
 changed_length c rs giver k (Err e) after h = ap length h.1
 
-pub changed_each : (P : ℕ → Arc → Type 0) (c : Change) (rs : List Arc) (giver : ℕ → Part) (k : ℕ) (r : Result Unit Refusal)
-    (after : List Arc) → ChangedIn c rs giver k r after →
-    (first_of (own_checks c (arc_at rs k) (giver k)) ≡ None → P k (arc_at rs k) → P k (changed c (arc_at rs k))) →
-    ((e : ℕ) → e < length rs → P e (arc_at rs e)) → (e : ℕ) → e < length after → P e (arc_at after e)
-changed_each P c rs giver k (Err x) after h keeps each e low =
-    subst (λ (xs : List Arc). P e (arc_at xs e)) (sym h.1) (each e (omega (arith, ap length h.1)))
-changed_each P c rs giver k (Ok _) after h keeps each e low =
-    subst (λ (xs : List Arc). P e (arc_at xs e)) (sym h.1) (⊎_elim here there (cases_eq e k))
-  where
-    less : k < length rs
-    less = accepted_low c rs giver k h.0
-
-    own : first_of (own_checks c (arc_at rs k) (giver k)) ≡ None
-    own = sym (change_there c rs giver k less) ∙ h.0
-
-    here : e ≡ k → P e (arc_at (set rs k (changed c (arc_at rs k))) e)
-    here is = subst (λ (i : ℕ). P i (arc_at (set rs k (changed c (arc_at rs k))) i)) (sym is)
-        (subst (P k) (sym (get_or-set_same rs k (changed c (arc_at rs k)) no_arc less)) (keeps own (each k less)))
-
-    there : e ≢ k → P e (arc_at (set rs k (changed c (arc_at rs k))) e)
-    there ne = subst (P e) (sym (get_or-set_other rs k e (changed c (arc_at rs k)) no_arc ne))
-        (each e (omega (arith, ap length h.1, length-set rs k (changed c (arc_at rs k)))))
-
 -- a change of a network is one in its list of reaches, and all else of the network stays
 module _ (c : Change) (g : Net) (giver : ℕ → Part) (k : ℕ) where
   pub changed_list : (r : Result Unit Refusal) (after : Net) → Changed c g giver k r after →
@@ -103,11 +73,6 @@ module _ (c : Change) (g : Net) (giver : ℕ → Part) (k : ℕ) where
   pub changed_frame : (r : Result Unit Refusal) (after : Net) → Changed c g giver k r after → after ≡ with_reaches g after.reaches
   changed_frame (Ok _) after h = h.1 ∙ ap (λ (x : Net). with_reaches g x.reaches) (sym h.1)
   changed_frame (Err e) after h = h.1 ∙ ap (λ (x : Net). with_reaches g x.reaches) (sym h.1)
-
-  pub changed_size : (r : Result Unit Refusal) (after : Net) → Changed c g giver k r after → size_of after ≡ size_of g
-  changed_size r after h =
-      let make : ℕ → Size = λ m. record { junctions = g.junctions; reaches = m; intake = g.intake; outfall = g.outfall } in
-      ap size_of (changed_frame r after h) ∙ ap make (changed_length c g.reaches giver k r after.reaches (changed_list r after h))
 
 sound : (c : Change) (g : Net) (giver : ℕ → Part) (k : ℕ) (r : Result Unit Refusal) (z : Net) →
     Sound g → Changed c g giver k r z → Sound z

@@ -8,7 +8,7 @@ use Rattle.refusal.specs.declared.Fault.TheVariants.{RouteExists, ByteNotAllowed
 use Rattle.refusal.specs.declared.Part.{Part}
 use Rattle.refusal.specs.declared.Refusal.{Refusal}
 use Rattle.refusal.specs.Numbers.{number_of}
-use Rattle.refusal.specs.Checks.{Check, check, first_of, Judged, unplaced}
+use Rattle.refusal.specs.Checks.{Check, check, first_of, Judged}
 use Rattle.refusal.specs.Laws.{OneAnswer}
 
 module _ (b : Bool) (n : ℕ) (p : Part) (cs : List Check) where
@@ -76,11 +76,3 @@ answered_once cs (Err e) (Err d) h k = ap Err (refused_once cs e d h k)
 
 pub one_answer : OneAnswer
 one_answer = record { number = number_tells; answer = answered_once }
-
--- a refusal that was made without a place
-pub refused_by : (A : Type 0) (cs : List Check) (f : Fault) (p : Part) (e : Refusal) → e ≡ unplaced f p →
-    first_of cs ≡ Some (number_of f, p) → Judged {A = A} cs (Err e)
-refused_by A cs f p e is h = (
-  h ∙ sym (ap (λ (x : Refusal). Some (number_of x.fault, x.part)) is),
-  ap (λ (x : Refusal). x.place) is,
-)

@@ -1,7 +1,6 @@
-use Rattle.std.proofs.Common.{◌≡◌, ℕ, ◌≢◌, List, cond, eqb, pos, ◌+ℤ◌, ap, ◌∙◌, arith}
+use Rattle.std.proofs.Common.{◌≡◌, ℕ, ◌≢◌, cond, eqb, pos, ◌+ℤ◌, ap, ◌∙◌, arith}
 use Rattle.std.proofs.lemmas.Int.{ints}
 use Rattle.std.proofs.lemmas.Bool.Decides.{nat_tests}
-use Rattle.flow.specs.Net.{Arc}
 use Rattle.flow.specs.Flows.{out_of, into, leaving, entering}
 use Rattle.flow.proofs.Changing.{amounts_bounded}
 use Rattle.network.specs.declared.size.Size.{Size}

@@ -1,7 +1,7 @@
-use Rattle.std.proofs.Common.{◌≡◌, ℕ, ◌+◌, ◌<◌, ◌≤◌, List, length, sym, ap, ◌∙◌, subst, arith}
+use Rattle.std.proofs.Common.{◌≤◌, length, sym, ap, subst, arith}
 use Rattle.flow.specs.Net.{Net}
 use Rattle.layer.specs.Keeping.{own_arcs}
-use Rattle.gathering.specs.Entering.{Feeders, feeder}
+use Rattle.gathering.specs.Entering.{feeder}
 use Rattle.gathering.specs.Standing.{feeders_of}
 use Rattle.gathering.proofs.Accepted.{accepted}
 use Rattle.gathering.proofs.Entered.{parted, Known, put_in, long_in, placed_low, known_more}
