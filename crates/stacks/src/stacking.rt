@@ -31,19 +31,17 @@ fn show_in_use<N: Network>(session: &mut Session<'_>, net: &mut N) {
     write_line(session.out, "tally", tally(net));
 }
 
-// Puts the upper two layers over a network, and uses the whole. (A function of its own beside the next, so that none has
-// more than two layers in its types.)
-fn show_upper_layers<N: Network + Drop>(session: &mut Session<'_>, net: N) {
-    let net: Chambers<N> = draw_layer(session, net, MOST_CHAMBERS);
-    let mut net: Gathering<Chambers<N>> = draw_layer(session, net, MOST_FEEDERS);
-    show_in_use(session, &mut net);
-}
-
 // Puts four layers over a network, and uses the whole.
 fn show_layers<N: Network + Drop>(session: &mut Session<'_>, net: N) {
     let net: Chambers<N> = draw_layer(session, net, MOST_CHAMBERS);
     let net: Gathering<Chambers<N>> = draw_layer(session, net, MOST_FEEDERS);
-    show_upper_layers(session, net);
+    let net: Chambers<Gathering<Chambers<N>>> = draw_layer(session, net, MOST_CHAMBERS);
+    let mut net: Gathering<Chambers<Gathering<Chambers<N>>>> = draw_layer(
+        session,
+        net,
+        MOST_FEEDERS,
+    );
+    show_in_use(session, &mut net);
 }
 
 // Draws the stack of a number, and prints it.

@@ -25,8 +25,9 @@ fn show_one<N: Network, L: Layer<N>>(out: &mut Out, net: N) -> L {
     layer
 }
 
-// What is built over a network. One of these holds what comes after it, so that a tower may be high while no function
-// has more than two layers in its types. (A trait, since its method is generic, which no closure is.)
+// What is built over a network. One of these holds what comes after it, so that no function writes out a whole tower: the
+// checker turns down the type of one of 32 layers ("structs, enums, tuples, arrays and references nest more than 64
+// deep"). (A trait, since its method is generic, which no closure is.)
 trait Above {
     fn build<N: Network + Drop>(self, out: &mut Out, net: N);
 }
