@@ -65,8 +65,8 @@ STAGES = {
 }
 MAY_END = ("after E", "after I or O", "commands")
 
-# Kinds that are read, but that the program has no entry or command for yet.
-NOT_CARRIED_OUT = "CIOSB"
+# Kinds that are read, but that the program has no command for yet.
+NOT_CARRIED_OUT = "SB"
 
 
 # ---- Builders: each returns the bytes of one record. -----------------------------------------------------------------
@@ -416,9 +416,7 @@ def report(data):
         return f"refused {TOO_LONG} at 0 in reader\n"
 
     draft = Draft()
-    # From E on: chambers over the table, and the whole: gathering over the chambers. No entry reaches them yet, so both
-    # are the table.
-    chambers = network = None
+    chambers = network = None  # from E on: chambers over the table, and the whole: gathering over the chambers
     stage = "start"
     commanded = False  # a command was read whole, so the network line is printed
     lines = []

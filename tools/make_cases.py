@@ -18,7 +18,7 @@ FOLDER = Path(__file__).resolve().parent.parent / "crates" / "drawings"
 NAME_LETTERS = set("abcdefghijklmnopqrstuvwxyzABCDEFGHIJKLMNOPQRSTUVWXYZ0123456789-")
 
 RANDOM_VALID = 36
-RANDOM_DAMAGED = 40  # a multiple of the four sorts of damage
+RANDOM_DAMAGED = 32  # a multiple of the four sorts of damage
 
 cases = {}  # name: bytes, in the order of the files
 
@@ -59,6 +59,10 @@ HEADER = H(3, 0, 2)  # 7 bytes
 TABLE = HEADER + R(0, 1, 500) + R(1, 2, 400)  # 25 bytes
 BUILT = TABLE + E()  # 26 bytes
 NETWORK = "network 3 2"
+WIDE = H(40, 0, 39) + R(0, 39, 1000) + E()  # 17 bytes: more junctions than a layer has places for chambers
+
+# The table is full with 1,024 reaches, which end at byte 7 + 9 * 1024 = 9223.
+FULL = H(256, 0, 255) + b"".join(R(k % 256, (k + 1 + k // 256) % 256, 1000 + k) for k in range(1024))
 
 
 def ends_and_order():
@@ -82,11 +86,22 @@ def ends_and_order():
         lines = (NETWORK, "tally 0", refused(11, 27, "reader"))
         add(f"after-command-{kind}", BUILT + T() + WHOLE[kind] + T(), *lines)
 
+    # Among the entries: a C has a place after a C, but none after an I or an O.
+    for kind in "NE":
+        add(f"after-chamber-{kind}", BUILT + C(1, 400) + WHOLE[kind] + T(), refused(11, 33, "reader"))
+    for kind in "HNREC":
+        add(f"after-source-{kind}", BUILT + I(1, 400) + WHOLE[kind] + T(), refused(11, 33, "reader"))
+    add("after-sink-C", BUILT + C(0, 400) + O(1, 400) + C(1, 400) + T(), refused(11, 40, "reader"))
+    add("after-entries-and-command-I", BUILT + C(0, 400) + I(1, 400) + T() + I(1, 400) + T(),
+        "network 6 4", "tally 0", refused(11, 41, "reader"))
+
     # A kind that has no place there is refused as such, even where its body is short as well.
     add("short-first-R", b"R", refused(11, 0, "reader"))
     add("short-in-table-H", TABLE + b"H", refused(11, 25, "reader"))
     add("short-after-end-N", BUILT + b"N\x00\x01W", refused(11, 26, "reader"))
     add("short-after-command-C", BUILT + D() + b"C", NETWORK, "drained", refused(11, 27, "reader"))
+    add("short-after-command-I", BUILT + D() + I(1, 4)[:-1], NETWORK, "drained", refused(11, 27, "reader"))
+    add("short-after-source-C", BUILT + I(1, 400) + C(1, 400)[:-1], refused(11, 33, "reader"))
 
 
 def shapes():
@@ -122,14 +137,12 @@ def lays():
     add("parallel-and-back", HEADER + R(0, 1, 5) + R(0, 1, 5) + R(1, 0, 5) + R(2, 0, 5) + E() + T(),
         "network 3 4", "tally 0")
 
-    # The table is full with 1,024 reaches, which end at byte 7 + 9 * 1024 = 9223.
-    full = H(256, 0, 255) + b"".join(R(k % 256, (k + 1 + k // 256) % 256, 1000 + k) for k in range(1024))
-    add("reaches-1024", full + E() + L(1023, 7) + L(1024, 7),
+    add("reaches-1024", FULL + E() + L(1023, 7) + L(1024, 7),
         "network 256 1024", "limit 1023 7", refused(4, 9231, "network"))
-    add("reaches-1025", full + R(0, 1, 1) + E(), refused(8, 9223, "draft"))
-    add("lay-2-before-8", full + R(256, 1, 1) + E(), refused(2, 9223, "draft"))
-    add("lay-3-before-8", full + R(1, 1, 1) + E(), refused(3, 9223, "draft"))
-    add("lay-5-before-8", full + R(0, 1, 1_000_001) + E(), refused(5, 9223, "draft"))
+    add("reaches-1025", FULL + R(0, 1, 1) + E(), refused(8, 9223, "draft"))
+    add("lay-2-before-8", FULL + R(256, 1, 1) + E(), refused(2, 9223, "draft"))
+    add("lay-3-before-8", FULL + R(1, 1, 1) + E(), refused(3, 9223, "draft"))
+    add("lay-5-before-8", FULL + R(0, 1, 1_000_001) + E(), refused(5, 9223, "draft"))
 
 
 def names():
@@ -160,23 +173,28 @@ def cuts_and_bad_bytes():
         (R(0, 2, 800), []),
         (R(2, 3, 650), []),
         (E(), []),
-        (L(1, 700), ["network 4 2", "limit 1 700"]),
+        (C(2, 600), []),
+        (O(3, 550), []),
+        (I(0, None), []),
+        (L(1, 700), ["network 7 5", "limit 1 700"]),
         (T(), ["tally 0"]),
         (D(), ["drained"]),
     ]
+    # The network line where the drawing ends after a record of this kind and no command was read.
+    told = {"E": "network 4 2", "C": "network 5 3", "O": "network 7 4", "I": "network 7 5"}
     whole = b"".join(record for record, _ in records)
-    place, printed, ended = 0, [], False
+    place, printed, network = 0, [], None
     for index, (record, lines) in enumerate(records):
         # Cut off inside this record: 12 at its place. A cut at its start is the end of the record before.
         for inside in range(1, len(record)):
             add(f"cut-{place + inside:02}", whole[: place + inside], *printed, refused(12, place, "reader"))
         place += len(record)
         printed = printed + lines
-        ended = ended or record == E()
-        if not ended:
+        network = told.get(chr(record[0]), network)
+        if network is None:
             add(f"cut-{place:02}", whole[:place], refused(12, place, "reader"))
         else:
-            add(f"cut-{place:02}", whole[:place], *(printed or ["network 4 2"]))
+            add(f"cut-{place:02}", whole[:place], *(printed or [network]))
         bad = b"Z" if index % 2 == 0 else b"\x00"
         add(f"bad-byte-at-{place:02}", whole[:place] + bad + whole[place:], *printed, refused(11, place, "reader"))
 
@@ -206,18 +224,129 @@ def commands():
     add("tally-outfall-first", H(3, 2, 0) + R(2, 1, 9) + R(1, 2, 9) + E() + T(), "network 3 2", "tally 0")
 
 
+def chambers():
+    """Where a chamber may be, and which refusal comes first."""
+    # The table has junctions 0 to 2 and reaches 0 and 1. The chambers' reaches are 2, 3 and 4.
+    add("chamber-at-intake", BUILT + C(0, 450) + L(2, 5) + L(3, 5),
+        "network 4 3", "limit 2 5", refused(4, 40, "network"))
+    add("chamber-at-outfall", BUILT + C(2, 450) + T() + L(2, 5), "network 4 3", "tally 0", "limit 2 5")
+    add("chamber-at-both", BUILT + C(0, 450) + C(2, 350) + L(2, 5) + L(3, 6) + L(4, 7) + T(),
+        "network 5 4", "limit 2 5", "limit 3 6", refused(4, 54, "network"), "tally 0")
+    add("chamber-at-every", BUILT + C(2, 350) + C(0, 450) + C(1, 420) + L(0, 1) + L(1, 2) + L(2, 3) + L(3, 4) + L(4, 5)
+        + L(5, 6), "network 6 5", "limit 0 1", "limit 1 2", "limit 2 3", "limit 3 4", "limit 4 5",
+        refused(4, 82, "network"))
+    add("chamber-at-tail-and-head", BUILT + C(0, 450) + C(1, 420) + L(0, 7) + L(0, 1_000_001) + L(3, 1_000_001),
+        "network 5 4", "limit 0 7", refused(5, 47, "network"), refused(5, 54, "chambers"))
+    add("chamber-no-command", BUILT + C(1, 450), "network 4 3")
+    add("chamber-no-reach", HEADER + E() + C(1, 4) + L(0, 3) + L(1, 3),
+        "network 4 1", "limit 0 3", refused(4, 22, "network"))
+
+    add("chamber-of-n", BUILT + C(3, 4) + T(), refused(2, 26, "chambers"))
+    add("chamber-of-last", H(256, 0, 1) + E() + C(255, 4) + T(), "network 257 1", "tally 0")
+    add("chamber-of-twin", BUILT + C(1, 4) + C(3, 4) + T(), refused(2, 33, "chambers"))
+    add("chamber-twice", BUILT + C(1, 4) + C(1, 5) + T(), refused(3, 33, "chambers"))
+    add("chamber-twice-apart", BUILT + C(0, 4) + C(2, 4) + C(0, 4) + T(), refused(3, 40, "chambers"))
+
+    add("chamber-limit-0", BUILT + C(1, 0) + L(2, 1), "network 4 3", "limit 2 1")
+    add("chamber-limit-1000000", BUILT + C(1, 1_000_000) + T(), "network 4 3", "tally 0")
+    add("chamber-limit-1000001", BUILT + C(1, 1_000_001) + T(), refused(5, 26, "chambers"))
+    add("chamber-limit-highest", BUILT + C(1, 0xFFFF_FFFF) + T(), refused(5, 26, "chambers"))
+    add("chamber-2-before-5", BUILT + C(3, 1_000_001), refused(2, 26, "chambers"))
+    add("chamber-3-before-5", BUILT + C(1, 4) + C(1, 1_000_001), refused(3, 33, "chambers"))
+
+    # 32 chambers end at byte 17 + 7 * 32 = 241. Their reaches are 1 to 32.
+    most = WIDE + b"".join(C(junction, 100 + junction) for junction in range(32))
+    add("chambers-32", most + L(32, 5) + L(33, 5), "network 72 33", "limit 32 5", refused(4, 248, "network"))
+    add("chambers-33", most + C(32, 5) + T(), refused(8, 241, "chambers"))
+    add("chamber-2-before-8", most + C(40, 5) + T(), refused(2, 241, "chambers"))
+    add("chamber-3-before-8", most + C(31, 5) + T(), refused(3, 241, "chambers"))
+    add("chamber-5-before-8", most + C(32, 1_000_001) + T(), refused(5, 241, "chambers"))
+
+
+def gathering():
+    """Where a source or a sink may be, and which refusal comes first. The same rules hold for both kinds."""
+    for word, entry, other in (("source", I, O), ("sink", O, I)):
+        add(f"{word}-alone", BUILT + entry(1, 400) + L(2, 5) + L(3, 5),
+            "network 5 3", "limit 2 5", refused(4, 40, "network"))
+        add(f"{word}-of-last", BUILT + entry(2, 400), "network 5 3")
+        add(f"{word}-of-n", BUILT + entry(3, 400) + T(), refused(2, 26, "gathering"))
+        add(f"{word}-limit-1000000", BUILT + entry(1, 1_000_000) + T(), "network 5 3", "tally 0")
+        add(f"{word}-limit-1000001", BUILT + entry(1, 1_000_001) + T(), refused(5, 26, "gathering"))
+        add(f"{word}-limit-fffffffe", BUILT + entry(1, 0xFFFF_FFFE) + T(), refused(5, 26, "gathering"))
+        add(f"{word}-limit-none", BUILT + entry(1, None) + L(2, 0) + L(2, 1_000_001),
+            "network 5 3", "limit 2 0", refused(5, 40, "gathering"))
+        add(f"{word}-2-before-5", BUILT + entry(3, 1_000_001) + T(), refused(2, 26, "gathering"))
+
+        # With the first entry junctions 3 and 4 appear, the gathering's own. No entry may name them.
+        add(f"{word}-of-own-intake", BUILT + I(1, 400) + entry(3, 400) + T(), refused(2, 33, "gathering"))
+        add(f"{word}-of-own-outfall", BUILT + O(1, 400) + entry(4, 400) + T(), refused(2, 33, "gathering"))
+
+        # 16 of a kind end at byte 26 + 7 * 16 = 138. One of the other kind takes no place of theirs.
+        most = BUILT + b"".join(entry(k % 3, 100 + k) for k in range(16))
+        add(f"{word}s-16", most + other(0, 400) + L(18, 5) + L(19, 5),
+            "network 5 19", "limit 18 5", refused(4, 152, "network"))
+        add(f"{word}s-17", most + entry(0, 400) + T(), refused(8, 138, "gathering"))
+        add(f"{word}-2-before-8", most + entry(3, 400) + T(), refused(2, 138, "gathering"))
+        add(f"{word}-5-before-8", most + entry(0, 1_000_001) + T(), refused(5, 138, "gathering"))
+
+        # Over a chamber at junction 1: the junction and its twin, 3, are both junctions of the network below.
+        add(f"{word}-at-chambered", BUILT + C(1, 450) + entry(1, 400) + L(2, 5) + L(3, 6) + L(4, 7),
+            "network 6 4", "limit 2 5", "limit 3 6", refused(4, 54, "network"))
+        add(f"{word}-at-twin", BUILT + C(1, 450) + entry(3, 400) + L(2, 1_000_001) + L(3, 1_000_001) + T(),
+            "network 6 4", refused(5, 40, "chambers"), refused(5, 47, "gathering"), "tally 0")
+        add(f"{word}-over-twin", BUILT + C(1, 450) + entry(3, 400) + entry(4, 400) + T(), refused(2, 40, "gathering"))
+
+    add("source-and-sink-16", BUILT + b"".join(I(k % 3, k) + O(k % 3, None) for k in range(16)) + L(33, 8) + L(34, 8),
+        "network 5 34", "limit 33 8", refused(4, 257, "network"))
+    add("one-junction-often", BUILT + I(1, 5) + I(1, 6) + O(1, 7) + O(1, None) + L(2, 1) + L(5, 2) + L(6, 3),
+        "network 5 6", "limit 2 1", "limit 5 2", refused(4, 68, "network"))
+
+
+def stacks():
+    """Chambers and gathering together: which reach is whose, and what follows a refused entry."""
+    # Reach 2 is the chamber's, 3 the source's feeder, 4 and 5 the sinks' feeders, though the source came last.
+    late = BUILT + C(1, 450) + O(2, 300) + O(3, None) + I(0, 350)
+    add("source-after-sinks", late + L(3, 1) + L(4, 2) + L(5, 3) + L(6, 4),
+        "network 6 6", "limit 3 1", "limit 4 2", "limit 5 3", refused(4, 75, "network"))
+    high = 1_000_001
+    add("who-refuses-which", late + L(1, high) + L(2, high) + L(3, high) + L(4, high) + L(5, high) + L(6, high),
+        "network 6 6", refused(5, 54, "network"), refused(5, 61, "chambers"), refused(5, 68, "gathering"),
+        refused(5, 75, "gathering"), refused(5, 82, "gathering"), refused(4, 89, "network"))
+    add("each-limit-highest", late + b"".join(L(k, 1_000_000) for k in range(6)) + D() + T(),
+        "network 6 6", *[f"limit {k} 1000000" for k in range(6)], "drained", "tally 0")
+    add("stack-no-command", late, "network 6 6")
+
+    # With no chamber the feeders come right after the table: reach 2 is the source's, reach 3 the sink's.
+    add("sink-before-source", BUILT + O(2, 300) + I(0, 350) + L(2, high) + L(3, 8) + L(4, 8),
+        "network 5 4", refused(5, 40, "gathering"), "limit 3 8", refused(4, 54, "network"))
+
+    # A refused entry ends the program, and comes before all that follows it.
+    add("chamber-before-bad-byte", BUILT + C(3, 400) + b"\x00", refused(2, 26, "chambers"))
+    add("source-before-bad-byte", BUILT + C(1, 400) + I(4, 400) + b"\xff", refused(2, 33, "gathering"))
+    add("sink-before-short", BUILT + O(1, high) + I(0, 400)[:-1], refused(5, 26, "gathering"))
+    add("chamber-before-source", BUILT + C(1, 400) + C(1, 400) + I(9, 400) + T(), refused(3, 33, "chambers"))
+    add("chamber-12-before-2", BUILT + C(9, high)[:-1], refused(12, 26, "reader"))
+    add("source-12-before-2", BUILT + I(9, high)[:-1], refused(12, 26, "reader"))
+
+    # The largest network that a drawing can describe. Its entries end at byte 9224 + 7 * 64 = 9672.
+    largest = FULL + E() + b"".join(C(8 * k, 1000 * k) for k in range(32))
+    largest += b"".join(O(k, None) + I(255 - k, 500 + k) for k in range(16))
+    add("largest", largest + L(1023, high) + L(1024, high) + L(1055, high) + L(1056, high) + L(1087, high) + L(1088, 5)
+        + L(1087, 5) + T(), "network 290 1088", refused(5, 9672, "network"), refused(5, 9679, "chambers"),
+        refused(5, 9686, "chambers"), refused(5, 9693, "gathering"), refused(5, 9700, "gathering"),
+        refused(4, 9707, "network"), "limit 1087 5", "tally 0")
+
+
 def not_carried_out():
-    """The kinds that the program reads, but has no entry or command for."""
-    for kind in "CIOSB":
-        add(f"no-command-{kind}", BUILT + WHOLE[kind] + T(), refused(11, 26, "reader"))
-    for kind in "CIOS":
-        add(f"no-command-short-{kind}", BUILT + WHOLE[kind][:-1], refused(12, 26, "reader"))
-    add("no-command-C-of-none", BUILT + C(9, 1_000_001) + L(0, 1), refused(11, 26, "reader"))
+    """The kinds that the program reads, but has no command for."""
     for kind in "SB":
+        add(f"no-command-{kind}", BUILT + WHOLE[kind] + T(), refused(11, 26, "reader"))
+        add(f"no-command-after-entries-{kind}", BUILT + C(1, 4) + I(0, 4) + WHOLE[kind] + T(),
+            refused(11, 40, "reader"))
         add(f"no-command-late-{kind}", BUILT + L(0, 8) + WHOLE[kind] + T(),
             NETWORK, "limit 0 8", refused(11, 33, "reader"))
+    add("no-command-short-S", BUILT + S(10)[:-1], refused(12, 26, "reader"))
     add("no-command-late-short-S", BUILT + D() + S(10)[:-1], NETWORK, "drained", refused(12, 27, "reader"))
-    add("no-command-late-short-I", BUILT + D() + I(1, 4)[:-1], NETWORK, "drained", refused(11, 27, "reader"))
 
 
 def sizes():
@@ -262,8 +391,29 @@ def two_of(dice, n):
     return first, (first + 1 + dice.below(n - 1)) % n
 
 
+def sound_limit(dice):
+    return dice.of([0, 1, 999_999, 1_000_000, dice.below(1_000_001)])
+
+
+def random_entries(dice, n):
+    """Entries over a table of n junctions. Now and then one is refused: no junction, one taken before, a high limit."""
+    records = []
+    first, chambers = dice.below(n), dice.below(min(n, 5))
+    for e in range(chambers):
+        fault = dice.below(24)
+        junction = {0: n + dice.below(3), 1: first}.get(fault, (first + e) % n)
+        records.append(C(junction, 1_000_001 if fault == 2 else sound_limit(dice)))
+    count = dice.of([0, 1, 2, 3, 4, 5, 6, 40])  # of 40 entries, 17 and more are of one kind
+    for _ in range(count):
+        fault = dice.below(64)
+        junction = n + chambers + dice.below(3) if fault == 0 else dice.below(n + chambers)
+        limit = 1_000_001 if fault == 1 else dice.of([None, sound_limit(dice)])
+        records.append(dice.of([I, O])(junction, limit))
+    return records
+
+
 def random_records(dice):
-    """The records of a drawing whose table is sound. Its commands may be refused."""
+    """The records of a drawing whose table is sound. Its entries and its commands may be refused."""
     n = dice.of([2, 3, 4, 5, 6, 7, 9, 12, 256])
     records = [H(n, *two_of(dice, n))]
     reaches = 0
@@ -271,9 +421,12 @@ def random_records(dice):
         if dice.below(4) == 0:
             records.append(N(dice.below(n), bytes(0x21 + dice.below(0x5E) for _ in range(8))))
         else:
-            records.append(R(*two_of(dice, n), dice.of([0, 1, 999_999, 1_000_000, dice.below(1_000_001)])))
+            records.append(R(*two_of(dice, n), sound_limit(dice)))
             reaches += 1
     records.append(E())
+    entries = random_entries(dice, n)
+    records += entries
+    reaches += len(entries)
     for _ in range(dice.below(11)):
         kind = dice.below(6)
         if kind == 0:
@@ -292,7 +445,7 @@ def random_valid():
 
 
 def random_damaged():
-    """Drawings with a sound table, and one fault each: a byte changed, removed or inserted, or the end cut off."""
+    """Such drawings with one fault more each: a byte changed, removed or inserted, or the end cut off."""
     for index in range(RANDOM_DAMAGED):
         dice = Dice(2000 + index)
         data = b"".join(random_records(dice))
@@ -321,6 +474,9 @@ def main():
     names()
     cuts_and_bad_bytes()
     commands()
+    chambers()
+    gathering()
+    stacks()
     not_carried_out()
     sizes()
     random_valid()

@@ -5,7 +5,7 @@ import sys
 from pathlib import Path
 
 sys.dont_write_bytecode = True  # leaves no __pycache__ beside the tools
-from drawing import D, E, H, L, N, R, T, report  # noqa: E402
+from drawing import C, D, E, H, I, L, N, O, R, T, report  # noqa: E402
 
 EXAMPLES = Path(__file__).resolve().parent.parent / "examples"
 
@@ -62,9 +62,53 @@ def refused():
     )
 
 
+def district():
+    """A river weir and a well field feed two cuts. The fork of the main can pass 3,200 litres per second, no more.
+    The rice land takes 1,600 at most, and the tail weir whatever arrives. Three commands are refused.
+    """
+    return b"".join(
+        [
+            H(8, 0, 7),
+            N(0, "WEIRGATE"),
+            N(1, "WELLHEAD"),
+            N(2, "MAINFORK"),
+            N(3, "NORTHCUT"),
+            N(4, "SOUTHCUT"),
+            N(5, "ORCHARDS"),
+            N(6, "RICELAND"),
+            N(7, "TAILWEIR"),
+            R(0, 2, 3600),
+            R(1, 2, 900),
+            R(2, 3, 2100),
+            R(2, 4, 1900),
+            R(3, 5, 1300),
+            R(3, 6, 750),
+            R(4, 6, 1450),
+            R(4, 5, 400),
+            R(5, 7, 1500),
+            R(6, 7, 800),
+            E(),
+            C(2, 3200),  # reach 10, from MAINFORK to its twin, junction 8
+            I(0, None),  # reach 11, from the gathering's intake, junction 9
+            I(1, 800),  # reach 12
+            O(6, 1600),  # reach 13, to the gathering's outfall, junction 10
+            O(7, None),  # reach 14
+            T(),
+            L(3, 1700),  # a reach of the table
+            L(10, 2900),  # the chamber
+            L(12, 650),  # the feeder of WELLHEAD
+            L(13, 1_000_001),  # refused: the limit of a feeder is too high
+            L(10, 1_000_001),  # refused: the limit of the chamber is too high
+            L(15, 500),  # refused: the reaches are 0 to 14
+            D(),
+            T(),
+        ]
+    )
+
+
 def main():
     EXAMPLES.mkdir(exist_ok=True)
-    for make in (headworks, refused):
+    for make in (headworks, refused, district):
         data = make()
         (EXAMPLES / f"{make.__name__}.drawing").write_bytes(data)
         (EXAMPLES / f"{make.__name__}.report").write_bytes(report(data).encode("ascii"))

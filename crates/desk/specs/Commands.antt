@@ -9,7 +9,7 @@ use Rattle.drawing.specs.Ahead.{Drawn, item, end, refused}
 use Rattle.desk.specs.declared.command.Command.{Command}
 use Rattle.desk.specs.declared.command.Command.TheVariants as command
 
--- the command that a record gives; chambers, sources, sinks, settling and bottlenecks are read, but have none yet
+-- the command that a record gives; settling and bottlenecks are read, but have none yet
 abbrev pub command_of : Said → Option Command
 command_of (limit k q) = Some (command.Limit k q)
 command_of drain = Some command.Drain

@@ -1,5 +1,4 @@
--- What a report over layers has to print for the entries of a drawing and what follows them, over a network g. (No program
--- prints it yet.)
+-- What is printed for the entries of a drawing and what follows them, over a network g.
 use Rattle.std.specs.Prelude.{ℕ, List, [], ◌∷◌, ◌++◌, Some, None, Option}
 use Rattle.refusal.specs.declared.Part.{Part}
 use Rattle.refusal.specs.declared.Part.TheVariants as parts

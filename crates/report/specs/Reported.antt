@@ -7,22 +7,22 @@ use Rattle.table.specs.Drafting.{fresh, shape_checks, with_shape, lay_checks, wi
 use Rattle.drawing.specs.Records.{shape, name, reach, table_end, chamber, source, sink, limit, settle, drain, bottleneck, tally}
 use Rattle.drawing.specs.Ahead.{Drawn, item, end, refused, drawn}
 use Rattle.desk.specs.Lines.{Lines, refused_line, refusal_line, refusable}
-use Rattle.desk.specs.Commands.{asked}
-use Rattle.desk.specs.Answering.{opened_lines}
+use Rattle.entries.specs.Entered.{chamber_lines}
 
 -- a record that has no place in the table. (The reader gives none, and no end before that of the table: `InOrder` in crate
 -- drawing. These cases are here since a definition speaks of every list of records.)
 abbrev pub misplaced : ℕ → Lines
 misplaced p = refused_line 11 p Reader ∷ []
 
--- the lines of a drawing, from the draft that its records have come to, in a table with room for so many reaches
+-- the lines of a drawing, from the draft that its records have come to, in a table with room for so many reaches; a record
+-- that is refused ends the program, and behind the end of the table come the entries
 abbrev pub draft_lines : ℕ → Drawn → Net → Lines
 draft_lines places (item p (shape n i o) rest) g =
     refusable (first_of (shape_checks g n i o)) p (draft_lines places rest (with_shape g n i o))
 draft_lines places (item p (reach t h q) rest) g =
     refusable (first_of (lay_checks g places t h q)) p (draft_lines places rest (with_reach g t h q))
 draft_lines places (item p (name j s q) rest) g = draft_lines places rest g
-draft_lines places (item p table_end rest) g = opened_lines (asked rest) (λ _. Network) g
+draft_lines places (item p table_end rest) g = chamber_lines rest g (λ _. Network) []
 draft_lines places (item p (chamber j q) rest) g = misplaced p
 draft_lines places (item p (source j q) rest) g = misplaced p
 draft_lines places (item p (sink j q) rest) g = misplaced p

@@ -1,13 +1,12 @@
 -- One step of reading a drawing's table.
-use Rattle.std.specs.Prelude.{◌≡◌, ℕ, Result}
+use Rattle.std.specs.Prelude.{◌≡◌, ℕ, [], Result}
 use Rattle.refusal.specs.declared.Part.TheVariants.{Network}
 use Rattle.refusal.specs.declared.Refusal.{Refusal}
 use Rattle.flow.specs.Net.{Net}
 use Rattle.drawing.specs.Records.{Said}
 use Rattle.drawing.specs.Ahead.{Drawn, item}
 use Rattle.desk.specs.Lines.{Lines, going_on}
-use Rattle.desk.specs.Commands.{asked}
-use Rattle.desk.specs.Answering.{opened_lines}
+use Rattle.entries.specs.Entered.{chamber_lines}
 use Rattle.report.specs.Reported.{draft_lines}
 
 -- a record of the table, other than its end, was entered into the network g, and left the network after
@@ -17,4 +16,4 @@ Entered places a p g r after =
 
 -- the table was read, and these records follow it
 abbrev pub table_lines : Result Unit Refusal → Drawn → Net → Lines
-table_lines r rest g = going_on r (opened_lines (asked rest) (λ _. Network) g)
+table_lines r rest g = going_on r (chamber_lines rest g (λ _. Network) [])

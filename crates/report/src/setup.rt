@@ -2,17 +2,20 @@
 ghost use Rattle.std.specs.Prelude.{◌≡◌, [], ◌∷◌, length, Ok, Err, ◌≢◌};
 ghost use Rattle.table.specs.Laid.{places_in};
 ghost use Rattle.table.specs.Drafting.{draft_net};
-ghost use Rattle.table.specs.Tables.{table_net, table_giver};
+ghost use Rattle.gathering.specs.Standing.{gathering_net, gathering_giver};
 ghost use Rattle.drawing.specs.Records.{said, table_end};
-ghost use Rattle.drawing.specs.Ahead.{ahead};
+ghost use Rattle.drawing.specs.Ahead.{ahead, drawn};
 ghost use Rattle.desk.specs.Lines.{refusal_line};
 ghost use Rattle.report.specs.Reported.{draft_lines, reported};
 ghost use Rattle.report.specs.Laws.{ToldOnce};
 ghost use Rattle.report.specs.Setups.{Entered, table_lines};
 ghost use Rattle.desk.specs.Rest.{rest};
 
+use chambers::Chambers;
 use desk::Desk;
 use drawing::{Reader, Record};
+use entries::{enter_chambers, enter_feeders};
+use gathering::Gathering;
 use network::Row;
 use refusal::{Fault, Part, Refusal, located};
 use table::{Draft, Table};
@@ -54,15 +57,22 @@ fn lay_table(reader: &mut Reader<'_>, draft: &mut Draft<'_>) -> Result<(), Refus
     }
 }
 
-// Reads the table of a drawing into the rows, commissions its network, and gives the desk that answers its commands;
-// or the refusal that is then the only line.
-pub fn open<'a, 't>(input: &'a [u8], rows: &'t mut [Row]) -> Result<Desk<'a, Table<'t>>, Refusal>
+// The network of a drawing: its table, the chambers over it, and the sources and sinks over those.
+pub type Stack<'t> = Gathering<Chambers<Table<'t>>>;
+
+// Reads the table of a drawing into the rows, commissions its network, puts the layers over it, and gives the desk that
+// answers its commands; or the refusal that is then the only line.
+pub fn open<'a, 't>(input: &'a [u8], rows: &'t mut [Row]) -> Result<Desk<'a, Stack<'t>>, Refusal>
     ensures lines { reported (places_in rows.old) input.now
-        ≡ elim result [ Ok d ↦ rest table_net table_giver d | Err e ↦ refusal_line e ∷ [] ] }
-    ensures once { ToldOnce (reported (places_in rows.old) input.now) }
+        ≡ elim result [ Ok d ↦ rest gathering_net gathering_giver d | Err e ↦ refusal_line e ∷ [] ] }
+    ensures once { ToldOnce (drawn input.now) (reported (places_in rows.old) input.now) }
 {
     let mut reader = Reader::open(input)?;
     let mut draft = Draft::new(rows);
     lay_table(&mut reader, &mut draft)?;
-    Ok(Desk::new(reader, draft.commission()))
+    let mut chambers = Chambers::new(draft.commission());
+    enter_chambers(&mut reader, &mut chambers)?;
+    let mut gathering = Gathering::new(chambers);
+    enter_feeders(&mut reader, &mut gathering)?;
+    Ok(Desk::new(reader, gathering))
 }
