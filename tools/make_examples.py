@@ -1,5 +1,7 @@
 #!/usr/bin/env python3
-"""Writes the example drawings and the report that is expected for each, in examples/."""
+"""Writes the example drawings and the report that is expected for each, in examples/, and one of them as the input and
+output of `allocate`.
+"""
 
 import sys
 from pathlib import Path
@@ -7,7 +9,9 @@ from pathlib import Path
 sys.dont_write_bytecode = True  # leaves no __pycache__ beside the tools
 from drawing import C, D, E, H, I, L, N, O, R, T, report  # noqa: E402
 
-EXAMPLES = Path(__file__).resolve().parent.parent / "examples"
+TOP = Path(__file__).resolve().parent.parent
+EXAMPLES = TOP / "examples"
+ALLOCATE = TOP / "crates" / "allocate"
 
 
 def headworks():
@@ -110,8 +114,12 @@ def main():
     EXAMPLES.mkdir(exist_ok=True)
     for make in (headworks, refused, district):
         data = make()
+        lines = report(data).encode("ascii")
         (EXAMPLES / f"{make.__name__}.drawing").write_bytes(data)
-        (EXAMPLES / f"{make.__name__}.report").write_bytes(report(data).encode("ascii"))
+        (EXAMPLES / f"{make.__name__}.report").write_bytes(lines)
+    # The gate runs the program on the last of them.
+    (ALLOCATE / "stdin").write_bytes(data)
+    (ALLOCATE / "stdout").write_bytes(lines)
 
 
 if __name__ == "__main__":

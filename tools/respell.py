@@ -1,5 +1,5 @@
 #!/usr/bin/env python3
-"""Respells the definitions and lemmas of this repository, and of the change that docs/layers-in-the-program.patch keeps:
+"""Respells the definitions and lemmas of this repository, and of a change that was kept in docs/ then:
 words in snake case, facts and records in camel case.
 
     python3 tools/respell.py [FOLDER]
