@@ -1,5 +1,5 @@
 -- Sums over reaches.
-use Rattle.std.proofs.Common.{◌≡◌, ℕ, zero, suc, ◌+◌, ◌*◌, ◌<◌, ◌≤◌, ◌≢◌, List, [], ◌∷◌, ◌++◌, map, length, refl, arith}
+use Rattle.std.proofs.Common.{◌≡◌, ℕ, zero, suc, ◌+◌, ◌*◌, ◌<◌, ◌≤◌, ◌≢◌, List, [], ◌∷◌, ◌++◌, map, length, set, Bool, cond, refl, arith}
 use Rattle.std.specs.List.{All}
 use Rattle.std.proofs.lemmas.List.Elements.{All-from_get_or}
 use Rattle.std.proofs.lemmas.Bool.Decides.{nat_tests}
@@ -54,3 +54,36 @@ sum_of-one f (r ∷ rs) zero low none =
 sum_of-one f (r ∷ rs) (suc e) low none =
     let first = none 0 (omega arith) (omega arith) in
     omega (arith, first, sum_of-one f rs e (omega arith) (λ i less ne. none (suc i) (omega arith) (λ same. ne (omega arith))))
+
+-- a sum when reach k of the list has become another
+pub sum_of-set : (f : Arc → ℕ) (rs : List Arc) (k : ℕ) (r : Arc) → k < length rs →
+    sum_of f (set rs k r) + f (arc_at rs k) ≡ sum_of f rs + f r
+sum_of-set f [] k r low = absurd (let z : ⊥ = omega arith in z)
+sum_of-set f (q ∷ rs) zero r low = omega arith
+sum_of-set f (q ∷ rs) (suc k) r low = omega (arith, sum_of-set f rs k r (omega arith))
+
+-- a sum of which each reach adds no more than to another
+pub sum_of-below : (f h : Arc → ℕ) (rs : List Arc) → All (λ r. f r ≤ h r) rs → sum_of f rs ≤ sum_of h rs
+sum_of-below f h [] each = omega arith
+sum_of-below f h (r ∷ rs) each =
+    omega (arith, each 0 no_arc (omega arith), sum_of-below f h rs (λ k d low. each (suc k) d (omega arith)))
+
+-- a sum over other reaches, made one by one
+pub sum_of-map : (f : Arc → ℕ) (g : Arc → Arc) (rs : List Arc) → sum_of f (map g rs) ≡ sum_of (λ r. f (g r)) rs
+sum_of-map f g [] = refl
+sum_of-map f g (r ∷ rs) = omega (arith, sum_of-map f g rs)
+
+-- two sums are the same, of which each reach adds no more to the one than to the other: it adds the same to both
+pub sum_of-tight : (f h : Arc → ℕ) (rs : List Arc) → All (λ r. f r ≤ h r) rs → sum_of f rs ≡ sum_of h rs →
+    All (λ r. f r ≡ h r) rs
+sum_of-tight f h [] each same k d low = absurd (let z : ⊥ = omega arith in z)
+sum_of-tight f h (r ∷ rs) each same zero d low =
+    let rest = sum_of-below f h rs (λ k e less. each (suc k) e (omega arith)) in omega (arith, rest, each 0 no_arc (omega arith))
+sum_of-tight f h (r ∷ rs) each same (suc k) d low =
+    let below = λ (i : ℕ) (e : Arc) (less : i < length rs). each (suc i) e (omega arith) in
+    let rest = sum_of-below f h rs below in
+    sum_of-tight f h rs below (omega (arith, rest, each 0 no_arc (omega arith))) k d (omega arith)
+
+-- 1 for yes, 0 for no
+abbrev pub tick : Bool → ℕ
+tick b = cond b 1 0

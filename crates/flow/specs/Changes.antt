@@ -1,5 +1,5 @@
 -- What the calls that write do to a network.
-use Rattle.std.specs.Prelude.{ℕ, List, map, slice_set}
+use Rattle.std.specs.Prelude.{◌≡◌, ℕ, List, map, slice_set}
 use Rattle.flow.specs.Net.{Arc, Net, arc_at}
 
 -- a reach with another carried amount, and with another limit
@@ -27,3 +27,7 @@ relimited k q g = reach_changed (limiting q) k g
 -- no reach carries anything
 abbrev pub drained : Net → Net
 drained g = with_reaches g (map (carrying 0) g.reaches)
+
+-- two networks that are alike but for what they carry: once drained, they are the same
+abbrev pub Alike : Net → Net → Type 0
+Alike g h = drained g ≡ drained h

@@ -1,7 +1,7 @@
--- What passes a junction, and what a network delivers.
-use Rattle.std.specs.Prelude.{ℕ, ◌+◌, Bool, cond, List, [], ◌∷◌, ℤ, pos, ◌-ℤ◌, ◌==◌, nat_lt}
+-- What passes a junction, what a network delivers, and flows.
+use Rattle.std.specs.Prelude.{◌≡◌, ℕ, ◌+◌, ◌<◌, ◌≢◌, Bool, cond, List, [], ◌∷◌, ℤ, pos, ◌-ℤ◌, ◌==◌, nat_lt}
 use Rattle.std.specs.List.{list_any}
-use Rattle.flow.specs.Net.{Arc, Net}
+use Rattle.flow.specs.Net.{Arc, Net, Within}
 
 -- a sum over reaches
 abbrev pub sum_of : (Arc → ℕ) → List Arc → ℕ
@@ -29,3 +29,9 @@ delivered g = pos (leaving g.intake g.reaches) -ℤ pos (entering g.intake g.rea
 -- whether some reach carries more than 0
 abbrev pub carries_any : List Arc → Bool
 carries_any rs = list_any (λ r. nat_lt 0 r.carried) rs
+
+-- what a network carries is a flow within its limits: no reach carries more than its limit, and as much leaves each
+-- junction as enters it, but for the intake and the outfall
+pub record IsFlow (g : Net) : Type 0 where
+  pub within : Within g
+  pub balanced : (v : ℕ) → v < g.junctions → v ≢ g.intake → v ≢ g.outfall → leaving v g.reaches ≡ entering v g.reaches

@@ -3,4 +3,14 @@ pub mod Net
 pub mod Steps
 pub mod Flows
 pub mod Changes
+pub mod Routes
+pub mod Pushes
+pub mod Cuts
+pub mod Labels
+pub mod Histories
+pub mod Promises
 pub mod Laws
+pub mod RouteLaws
+pub mod CutLaws
+pub mod LabelLaws
+pub mod Cases
