@@ -16,7 +16,7 @@ use Rattle.flow.specs.CutLaws.{carried_across, exchanged}
 use Rattle.flow.proofs.Sums.{sum_of-same, sum_of-zero, sum_of-tight, tick}
 use Rattle.flow.proofs.Walks.{begins_at, finishes_at, room, open_in, ends_in, headroom-forth, headroom-back, IsWalk-append}
 use Rattle.flow.proofs.Changing.{two_steps}
-use Rattle.flow.proofs.Likeness.{Shaped-alike, junctions-alike, cut_sum-alike, crossing_count-alike, IsCut-alike}
+use Rattle.flow.proofs.Likeness.{bare-alike, Shaped-alike, junctions-alike, cut_sum-alike, crossing_count-alike, IsCut-alike}
 use Rattle.flow.proofs.Cutting.{cut_balance, across-le}
 
 -- no open step leaves the near side
@@ -83,7 +83,7 @@ module _ (g : Net) (near : Side) (shaped : Shaped g) (flow : IsFlow g) (finished
 
   bottleneck_closed : Closed near g.reaches
   bottleneck_closed s opens from =
-      let ends = ends_in g s shaped opens in
+      let ends = ends_in g.junctions g.reaches s shaped.joined opens in
       let w : Reached g (begins g.reaches s) = (is (begins g.reaches s) ends.0).0 from in
       (is (finishes g.reaches s) ends.1).1
       (w.0 ++ s ∷ [], IsWalk-append g.reaches g.intake w.0 (begins g.reaches s) (s ∷ []) (finishes g.reaches s) w.1 (refl, opens, refl))
@@ -95,7 +95,7 @@ module _ (g : Net) (near : Side) (shaped : Shaped g) (flow : IsFlow g) (finished
 
   bottleneck_most : (h : Net) → Alike g h → IsFlow h → delivered h ≤ℤ delivered g
   bottleneck_most h a fits =
-      omega (arith, ints, bottleneck_tight, cut_sum-alike near g h a, across-le near h.reaches fits.within,
+      omega (arith, ints, bottleneck_tight, cut_sum-alike near g.reaches h.reaches (bare-alike g h a), across-le near h.reaches fits.within,
       cut_balance h near (Shaped-alike g h a shaped) fits (IsCut-alike near g h a bottleneck_cut))
 
   bottleneck_least : (other : Side) → IsCut g other → cut_sum near g.reaches ≤ cut_sum other g.reaches
@@ -133,7 +133,7 @@ contained : (g h : Net) (near other : Side) → Shaped g → Alike g h → IsFlo
     (v : ℕ) → v < g.junctions → IsTrue (other v) → IsTrue (near v)
 contained g h near other shaped a fits flows p q v low there =
     let sums : cut_sum near h.reaches ≡ cut_sum other h.reaches =
-    omega (arith, ints, p.tight, q.tight, p.most h a flows, q.most g (sym a) fits, cut_sum-alike near g h a) in
+    omega (arith, ints, p.tight, q.tight, p.most h a flows, q.most g (sym a) fits, cut_sum-alike near g.reaches h.reaches (bare-alike g h a)) in
     q.nearest near (IsCut-alike near g h a p.cut) sums v (omega (arith, junctions-alike g h a)) there
 
 pub agreed : (g h : Net) (near other : Side) → Shaped g → Alike g h → IsFlow g → IsFlow h → IsBest g near → IsBest h other →
@@ -142,7 +142,7 @@ agreed g h near other shaped a fits flows p q = record {
   delivers = omega (arith, ints, p.most h a flows, q.most g (sym a) fits);
   sides = sides;
   sums = omega (arith, ints, p.tight, q.tight, p.most h a flows, q.most g (sym a) fits);
-  counts = crossing_count-same near other g.junctions g.reaches shaped.joined sides ∙ crossing_count-alike other g h a;
+  counts = crossing_count-same near other g.junctions g.reaches shaped.joined sides ∙ crossing_count-alike other g.reaches h.reaches (bare-alike g h a);
 }
   where
     sides : (v : ℕ) → v < g.junctions → near v ≡ other v

@@ -58,7 +58,8 @@ one_changed = record {
   there = λ f k j g ne. get_or-set_other g.reaches k j (f (arc_at g.reaches k)) no_arc ne;
 }
 
-drained_at : (rs : List Arc) (k : ℕ) → arc_at (map (carrying 0) rs) k ≡ carrying 0 (arc_at rs k)
+-- reach k of drained reaches, wherever k is
+pub drained_at : (rs : List Arc) (k : ℕ) → arc_at (map (carrying 0) rs) k ≡ carrying 0 (arc_at rs k)
 drained_at rs k = ⊎_elim
     (λ (low : k < length rs). get_or-map (carrying 0) rs k no_arc no_arc low)
     (λ (high : length rs ≤ k).

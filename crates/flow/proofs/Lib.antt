@@ -4,5 +4,10 @@ pub mod Walks
 pub mod Likeness
 pub mod Cutting
 pub mod Besting
+pub mod Pushing
+pub mod Order
+pub mod Labelling
+pub mod Firsts
+pub mod Distances
 pub mod Fairness
 pub mod Changing

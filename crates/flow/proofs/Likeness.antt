@@ -1,23 +1,61 @@
 -- What networks have in common that are alike but for what they carry.
-use Rattle.std.proofs.Common.{◌≡◌, ℕ, ◌<◌, ◌≤◌, Bool, cond, List, map, length, sym, ap, ◌∙◌, subst, arith}
+use Rattle.std.proofs.Common.{◌≡◌, ℕ, ◌<◌, ◌≤◌, Bool, cond, List, map, set, length, sym, ap, ◌∙◌, subst, arith}
 use lib.ListN.{length-map}
 use Rattle.std.specs.List.{All}
-use Rattle.std.proofs.lemmas.List.{get_or-map}
+use Rattle.std.proofs.lemmas.List.{get_or-map, map-set, set-get_or}
 use Rattle.std.proofs.lemmas.List.Elements.{All-map}
 use Rattle.flow.specs.Bounds.{highest_limit}
-use Rattle.flow.specs.Net.{Arc, Net, Joined, Shaped}
-use Rattle.flow.specs.Flows.{sum_of}
+use Rattle.flow.specs.Net.{Arc, Net, no_arc, arc_at, Joined, Shaped}
+use Rattle.flow.specs.Steps.{along_reach, goes_back, begins, finishes}
 use Rattle.flow.specs.Changes.{carrying, drained, Alike}
 use Rattle.flow.specs.Cuts.{Side, IsCut, crosses, cut_sum, crossing_count}
 use Rattle.flow.proofs.Sums.{sum_of-map}
+use Rattle.flow.proofs.Walks.{begins_at, finishes_at}
+use Rattle.flow.proofs.Changing.{drained_at}
+
+-- reaches that carry nothing, and are the same else. Two lists are alike when theirs are the same
+abbrev pub bare : List Arc → List Arc
+bare rs = map (carrying 0) rs
+
+pub bare-alike : (g h : Net) → Alike g h → bare g.reaches ≡ bare h.reaches
+bare-alike g h a = ap (λ (x : Net). x.reaches) a
+
+-- a list of which one reach carries another amount
+pub bare-set : (rs : List Arc) (k a : ℕ) → bare rs ≡ bare (set rs k (carrying a (arc_at rs k)))
+bare-set rs k a =
+    sym (map-set (carrying 0) rs k (carrying a (arc_at rs k)) ∙ ap (set (bare rs) k) (sym (drained_at rs k)) ∙ set-get_or (bare rs) k no_arc)
+
+-- reach k of both is the same but for what it carries; so the ends of each step are the same
+pub arc-alike : (rs qs : List Arc) → bare rs ≡ bare qs → (k : ℕ) → carrying 0 (arc_at rs k) ≡ carrying 0 (arc_at qs k)
+arc-alike rs qs a k = sym (drained_at rs k) ∙ ap (λ (xs : List Arc). arc_at xs k) a ∙ drained_at qs k
+
+pub begins-alike : (rs qs : List Arc) → bare rs ≡ bare qs → (s : ℕ) → begins rs s ≡ begins qs s
+begins-alike rs qs a s = ap (begins_at (goes_back s)) (arc-alike rs qs a (along_reach s))
+
+pub finishes-alike : (rs qs : List Arc) → bare rs ≡ bare qs → (s : ℕ) → finishes rs s ≡ finishes qs s
+finishes-alike rs qs a s = ap (finishes_at (goes_back s)) (arc-alike rs qs a (along_reach s))
+
+pub length-alike : (rs qs : List Arc) → bare rs ≡ bare qs → length rs ≡ length qs
+length-alike rs qs a = sym (length-map rs (carrying 0)) ∙ ap length a ∙ length-map qs (carrying 0)
+
+-- sums to which a reach adds the same whatever it carries
+pub cut_sum-alike : (near : Side) (rs qs : List Arc) → bare rs ≡ bare qs → cut_sum near rs ≡ cut_sum near qs
+cut_sum-alike near rs qs a =
+    sym (sum_of-map (λ r. cond (crosses near r) r.limit 0) (carrying 0) rs)
+    ∙ ap (cut_sum near) a ∙ sum_of-map (λ r. cond (crosses near r) r.limit 0) (carrying 0) qs
+
+pub crossing_count-alike : (near : Side) (rs qs : List Arc) → bare rs ≡ bare qs → crossing_count near rs ≡ crossing_count near qs
+crossing_count-alike near rs qs a =
+    sym (sum_of-map (λ r. cond (crosses near r) 1 0) (carrying 0) rs)
+    ∙ ap (crossing_count near) a ∙ sum_of-map (λ r. cond (crosses near r) 1 0) (carrying 0) qs
 
 -- what holds of all reaches made from others holds of the others, each in its new form
-pub All-unmap : (P : Arc → Type 0) (f : Arc → Arc) (rs : List Arc) → All P (map f rs) → All (λ r. P (f r)) rs
+All-unmap : (P : Arc → Type 0) (f : Arc → Arc) (rs : List Arc) → All P (map f rs) → All (λ r. P (f r)) rs
 All-unmap P f rs all k d low =
     subst P (get_or-map f rs k d (f d) low) (all k (f d) (omega (arith, length-map rs f)))
 
--- draining keeps a network's shape, and so does its converse
-pub Shaped-drained : (g : Net) → Shaped g → Shaped (drained g)
+-- the shape of a network goes over to one that is alike, by way of the drained one
+Shaped-drained : (g : Net) → Shaped g → Shaped (drained g)
 Shaped-drained g s = record {
   two = s.two;
   few = s.few;
@@ -47,29 +85,8 @@ Shaped-alike g h a s = Shaped-undrained h (subst Shaped a (Shaped-drained g s))
 pub junctions-alike : (g h : Net) → Alike g h → g.junctions ≡ h.junctions
 junctions-alike g h a = ap (λ (x : Net). x.junctions) a
 
-pub intake-alike : (g h : Net) → Alike g h → g.intake ≡ h.intake
-intake-alike g h a = ap (λ (x : Net). x.intake) a
-
-pub outfall-alike : (g h : Net) → Alike g h → g.outfall ≡ h.outfall
-outfall-alike g h a = ap (λ (x : Net). x.outfall) a
-
-pub length-alike : (g h : Net) → Alike g h → length g.reaches ≡ length h.reaches
-length-alike g h a =
-    sym (length-map g.reaches (carrying 0)) ∙ ap (λ (x : Net). length x.reaches) a ∙ length-map h.reaches (carrying 0)
-
--- sums to which a reach adds the same whatever it carries
-pub cut_sum-alike : (near : Side) (g h : Net) → Alike g h → cut_sum near g.reaches ≡ cut_sum near h.reaches
-cut_sum-alike near g h a =
-    sym (sum_of-map (λ r. cond (crosses near r) r.limit 0) (carrying 0) g.reaches)
-    ∙ ap (λ (x : Net). cut_sum near x.reaches) a ∙ sum_of-map (λ r. cond (crosses near r) r.limit 0) (carrying 0) h.reaches
-
-pub crossing_count-alike : (near : Side) (g h : Net) → Alike g h → crossing_count near g.reaches ≡ crossing_count near h.reaches
-crossing_count-alike near g h a =
-    sym (sum_of-map (λ r. cond (crosses near r) 1 0) (carrying 0) g.reaches)
-    ∙ ap (λ (x : Net). crossing_count near x.reaches) a ∙ sum_of-map (λ r. cond (crosses near r) 1 0) (carrying 0) h.reaches
-
 pub IsCut-alike : (near : Side) (g h : Net) → Alike g h → IsCut g near → IsCut h near
 IsCut-alike near g h a c = record {
-  intake_near = ap near (sym (intake-alike g h a)) ∙ c.intake_near;
-  outfall_far = ap near (sym (outfall-alike g h a)) ∙ c.outfall_far;
+  intake_near = ap (λ (x : Net). near x.intake) (sym a) ∙ c.intake_near;
+  outfall_far = ap (λ (x : Net). near x.outfall) (sym a) ∙ c.outfall_far;
 }

@@ -1,10 +1,11 @@
 -- Steps and walks.
 use Rattle.std.proofs.Common.{◌≡◌, ℕ, ◌+◌, ◌-◌, ◌*◌, ◌/◌, ◌<◌, ◌≤◌, ◌≢◌, Bool, true, false, cond, List, [], ◌∷◌, ◌++◌, length, refl, sym, ap, ◌∙◌, subst, ⊎_elim, arith}
+use Rattle.std.specs.List.{All}
 use Rattle.std.proofs.lemmas.List.{get_or_past}
 use Rattle.std.proofs.lemmas.List.Elements.{All-get_or}
 use Rattle.std.proofs.lemmas.Bool.{cases_lt}
 use Rattle.std.proofs.lemmas.Bool.Decides.{nat_tests}
-use Rattle.flow.specs.Net.{Arc, Net, no_arc, arc_at, Joined, Shaped}
+use Rattle.flow.specs.Net.{Arc, no_arc, arc_at, Joined}
 use Rattle.flow.specs.Steps.{along_reach, goes_back, arc_of, begins, finishes, headroom, IsOpen}
 use Rattle.flow.specs.Routes.{IsWalk}
 
@@ -30,15 +31,15 @@ open_in rs s opens = ⊎_elim (λ (low : along_reach s < length rs). low)
     absurd (let z : ⊥ = omega (arith, past, no_room (goes_back s)) in z)) (cases_lt (along_reach s) (length rs))
 
 -- the ends of an open step are two different junctions
-pub ends_in : (g : Net) (s : ℕ) → Shaped g → IsOpen g.reaches s →
-    (begins g.reaches s < g.junctions) × (finishes g.reaches s < g.junctions) × (begins g.reaches s ≢ finishes g.reaches s)
-ends_in g s shaped opens = either (goes_back s) (All-get_or (Joined g.junctions) g.reaches (along_reach s) no_arc (open_in g.reaches s opens) shaped.joined)
+pub ends_in : (n : ℕ) (rs : List Arc) (s : ℕ) → All (Joined n) rs → IsOpen rs s →
+    (begins rs s < n) × (finishes rs s < n) × (begins rs s ≢ finishes rs s)
+ends_in n rs s joined opens = either (goes_back s) (All-get_or (Joined n) rs (along_reach s) no_arc (open_in rs s opens) joined)
   where
-    either : (back : Bool) → Joined g.junctions (arc_of g.reaches s) →
-        (begins_at back (arc_of g.reaches s) < g.junctions) × (finishes_at back (arc_of g.reaches s) < g.junctions)
-        × (begins_at back (arc_of g.reaches s) ≢ finishes_at back (arc_of g.reaches s))
-    either true joined = (joined.1, joined.0, λ same. joined.2 (sym same))
-    either false joined = (joined.0, joined.1, joined.2)
+    either : (back : Bool) → Joined n (arc_of rs s) →
+        (begins_at back (arc_of rs s) < n) × (finishes_at back (arc_of rs s) < n)
+        × (begins_at back (arc_of rs s) ≢ finishes_at back (arc_of rs s))
+    either true j = (j.1, j.0, λ same. j.2 (sym same))
+    either false j = (j.0, j.1, j.2)
 
 -- the headroom of the two steps along a reach
 pub headroom-forth : (rs : List Arc) (k : ℕ) → headroom rs (2 * k) ≡ (arc_at rs k).limit - (arc_at rs k).carried

@@ -1,8 +1,8 @@
 -- Pushing routes, and the plain machine, which pushes first shortest routes until there is none or its budget is spent.
-use Rattle.std.specs.Prelude.{◌≡◌, ℕ, ◌+◌, ◌-◌, ◌≤◌, ◌⊎◌, min, cond, List, [], ◌∷◌, length, ⊤}
+use Rattle.std.specs.Prelude.{◌≡◌, ℕ, ◌+◌, ◌-◌, ◌≤◌, ◌⊎◌, min, cond, List, [], ◌∷◌, length, slice_set, ⊤}
 use Rattle.flow.specs.Net.{Arc, Net}
 use Rattle.flow.specs.Steps.{along_reach, goes_back, arc_of, headroom}
-use Rattle.flow.specs.Changes.{recarried}
+use Rattle.flow.specs.Changes.{carrying, with_reaches}
 use Rattle.flow.specs.Routes.{Finished, IsFirst}
 
 -- the least headroom on a list of steps; where there is no step, 0
@@ -15,17 +15,17 @@ least_headroom rs (s ∷ (t ∷ ts)) = min (headroom rs s) (least_headroom rs (t
 abbrev pub amount_after : ℕ → List Arc → ℕ → ℕ
 amount_after d rs s = cond (goes_back s) ((arc_of rs s).carried - d) ((arc_of rs s).carried + d)
 
--- d litres more along one step, and along each step of a list
-abbrev pub shifted : ℕ → ℕ → Net → Net
-shifted d s g = recarried (along_reach s) (amount_after d g.reaches s) g
+-- the reaches when d litres more go along one step, and along each step of a list
+abbrev pub shifted : ℕ → List Arc → ℕ → List Arc
+shifted d rs s = slice_set rs (along_reach s) (carrying (amount_after d rs s) (arc_of rs s))
 
-abbrev pub shifted_along : ℕ → List ℕ → Net → Net
-shifted_along d [] g = g
-shifted_along d (s ∷ ss) g = shifted_along d ss (shifted d s g)
+abbrev pub shifted_along : ℕ → List Arc → List ℕ → List Arc
+shifted_along d rs [] = rs
+shifted_along d rs (s ∷ ss) = shifted_along d (shifted d rs s) ss
 
 -- a route is pushed: the least headroom on it more along each of its steps
 abbrev pub pushed : List ℕ → Net → Net
-pushed ss g = shifted_along (least_headroom g.reaches ss) ss g
+pushed ss g = with_reaches g (shifted_along (least_headroom g.reaches ss) g.reaches ss)
 
 -- routes are pushed one after another
 abbrev pub pushed_all : List (List ℕ) → Net → Net
