@@ -11,5 +11,7 @@ pub mod Firsts
 pub mod Distances
 pub mod Spending
 pub mod Running
+pub mod Machining
+pub mod Promising
 pub mod Fairness
 pub mod Changing

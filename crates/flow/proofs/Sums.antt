@@ -1,7 +1,9 @@
 -- Sums over reaches.
-use Rattle.std.proofs.Common.{◌≡◌, ℕ, zero, suc, ◌+◌, ◌*◌, ◌<◌, ◌≤◌, ◌≢◌, List, [], ◌∷◌, ◌++◌, map, length, set, Bool, cond, refl, arith}
+use Rattle.std.proofs.Common.{◌≡◌, ℕ, zero, suc, ◌+◌, ◌*◌, ◌<◌, ◌≤◌, ◌≢◌, List, [], ◌∷◌, ◌++◌, map, length, set, Bool, cond, refl, ap, ⊎_elim, arith}
 use Rattle.std.specs.List.{All}
 use Rattle.std.proofs.lemmas.List.Elements.{All-from_get_or}
+use Rattle.std.proofs.lemmas.List.{set_past}
+use Rattle.std.proofs.lemmas.Bool.{cases_lt}
 use Rattle.std.proofs.lemmas.Bool.Decides.{nat_tests}
 use Rattle.flow.specs.Net.{Arc, no_arc, arc_at}
 use Rattle.flow.specs.Flows.{sum_of, out_of, into}
@@ -61,6 +63,12 @@ pub sum_of-set : (f : Arc → ℕ) (rs : List Arc) (k : ℕ) (r : Arc) → k < l
 sum_of-set f [] k r low = absurd (let z : ⊥ = omega arith in z)
 sum_of-set f (q ∷ rs) zero r low = omega arith
 sum_of-set f (q ∷ rs) (suc k) r low = omega (arith, sum_of-set f rs k r (omega arith))
+
+-- a sum to which the new reach adds what the old one added
+pub sum_of-set_same : (f : Arc → ℕ) (rs : List Arc) (k : ℕ) (r : Arc) → f r ≡ f (arc_at rs k) → sum_of f (set rs k r) ≡ sum_of f rs
+sum_of-set_same f rs k r same = ⊎_elim
+    (λ (low : k < length rs). omega (arith, sum_of-set f rs k r low))
+    (λ (past : length rs ≤ k). ap (sum_of f) (set_past rs k r past)) (cases_lt k (length rs))
 
 -- a sum of which each reach adds no more than to another
 pub sum_of-below : (f h : Arc → ℕ) (rs : List Arc) → All (λ r. f r ≤ h r) rs → sum_of f rs ≤ sum_of h rs

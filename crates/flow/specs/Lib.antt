@@ -9,6 +9,7 @@ pub mod Cuts
 pub mod Labels
 pub mod Histories
 pub mod Promises
+pub mod HistoryLaws
 pub mod Laws
 pub mod RouteLaws
 pub mod CutLaws
