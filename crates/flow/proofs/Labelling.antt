@@ -148,13 +148,18 @@ still_shifted d rs label s is t not after =
     (λ (ne : along_reach t ≢ along_reach s). not (record { opens = omega (arith, after.opens, headroom-kept d rs s t ne); falls = f }))
     (cases_eq (along_reach t) (along_reach s))
 
-pub still_along : (d : ℕ) (rs : List Arc) (label : ℕ → ℕ) (from : ℕ) (ss : List ℕ) (to : ℕ) → IsWalk rs from ss to → Apart ss →
+still_along : (d : ℕ) (rs : List Arc) (label : ℕ → ℕ) (from : ℕ) (ss : List ℕ) (to : ℕ) → IsWalk rs from ss to → Apart ss →
     AllFall label rs ss → (t : ℕ) → ¬ IsAdmissible label rs t → ¬ IsAdmissible label (shifted_along d rs ss) t
 still_along d rs label from [] to w apart f t not = not
 still_along d rs label from (s ∷ ss) to w apart f t not =
     still_along d (shifted d rs s) label (finishes rs s) ss to (IsWalk-kept d rs s (finishes rs s) ss to apart.0 w.2) apart.1
     (AllFall-alike label rs (shifted d rs s) (bare-shifted d rs s) ss f.1) t
     (still_shifted d rs label s (record { opens = w.1; falls = f.0 }) t not)
+
+pub still_pushed : (g : Net) (label : ℕ → ℕ) (ss : List ℕ) → IsRoute g ss → AllFall label g.reaches ss →
+    (t : ℕ) → ¬ IsAdmissible label g.reaches t → ¬ IsAdmissible label (pushed ss g).reaches t
+still_pushed g label ss r f =
+    still_along (least_headroom g.reaches ss) g.reaches label g.intake ss g.outfall r (apart_from_fall label g.reaches g.intake ss g.outfall r f) f
 
 -- one label is raised
 relabelled_here : (label : ℕ → ℕ) (v c u : ℕ) → u ≡ v → relabelled v c label u ≡ c

@@ -13,5 +13,6 @@ pub mod Spending
 pub mod Running
 pub mod Machining
 pub mod Promising
+pub mod Lawful
 pub mod Fairness
 pub mod Changing

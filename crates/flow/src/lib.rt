@@ -3,6 +3,11 @@
 #![tactic(auto)]
 
 ghost use Rattle.flow.specs.Laws.{KeepsSound, OneChanged, DrainedIsDry, TwoSteps, AmountsBounded};
+ghost use Rattle.flow.specs.RouteLaws.{RouteLaws, PushLaws, RunsBounded, MachineLaws};
+ghost use Rattle.flow.specs.CutLaws.{CutLaws};
+ghost use Rattle.flow.specs.LabelLaws.{LabelLaws};
+ghost use Rattle.flow.specs.HistoryLaws.{HistoryLaws};
+ghost use Rattle.flow.specs.Promises.{PromiseKept};
 
 // Accepted changes and draining keep a network sound.
 pub fn keeps_sound_stands() -> u8
@@ -35,6 +40,62 @@ pub fn two_steps_stands() -> u8
 // No sum of carried amounts at a junction leaves 32 bits.
 pub fn amounts_bounded_stands() -> u8
     ensures { AmountsBounded }
+{
+    0
+}
+
+// There is one first shortest route, or none; a shortest route goes along no reach twice.
+pub fn routes_stand() -> u8
+    ensures { RouteLaws }
+{
+    0
+}
+
+// A shortest route that is pushed adds the least headroom on it; draining and accepted limits leave a flow.
+pub fn pushes_stand() -> u8
+    ensures { PushLaws }
+{
+    0
+}
+
+// Routes pushed one after another never get shorter, and are at most m × (n − 1).
+pub fn runs_bounded_stand() -> u8
+    ensures { RunsBounded }
+{
+    0
+}
+
+// The plain machine pushes one list of routes with each budget; m × (n − 1) is enough.
+pub fn machine_stands() -> u8
+    ensures { MachineLaws }
+{
+    0
+}
+
+// What a flow delivers, cuts, and the bottleneck of a network in which no route exists.
+pub fn cuts_stand() -> u8
+    ensures { CutLaws }
+{
+    0
+}
+
+// Labels bound walks, lead to the first shortest route, and last.
+pub fn labels_stand() -> u8
+    ensures { LabelLaws }
+{
+    0
+}
+
+// A settling has one answer; a history goes on call by call.
+pub fn histories_stand() -> u8
+    ensures { HistoryLaws }
+{
+    0
+}
+
+// Every history of a network that was commissioned and dry keeps the promise.
+pub fn promise_stands() -> u8
+    ensures { PromiseKept }
 {
     0
 }

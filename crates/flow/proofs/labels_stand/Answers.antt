@@ -1,0 +1,5 @@
+use Rattle.flow.proofs.Lawful.{label_laws}
+use Rattle.flow.proofs.labels_stand.Goals as goal
+
+pub returns : goal.returns
+returns c = label_laws
