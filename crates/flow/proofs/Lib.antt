@@ -14,5 +14,6 @@ pub mod Running
 pub mod Machining
 pub mod Promising
 pub mod Lawful
+pub mod Checking
 pub mod Fairness
 pub mod Changing

@@ -1,6 +1,9 @@
 -- The order in which of two steps one goes first. Other proofs rest on what is proved here of it, and not on its text.
 use Rattle.std.proofs.Common.{◌≡◌, ℕ, zero, suc, ◌<◌, ◌≤◌, ◌⊎◌, Bool, true, false, List, [], ◌∷◌, length, refl, ap, ap₂, ◌∙◌, inl, inr, ⊎_elim, arith}
 use Rattle.std.proofs.lemmas.Bool.{cases_order, cases_eq, cases_Bool, both_ways}
+use Rattle.std.specs.Bool.{Decides}
+use Rattle.std.specs.Prelude.{nat_lt}
+use Rattle.std.proofs.lemmas.Bool.Decides.{Decides-ltb}
 use Rattle.flow.specs.Routes.{GoesFirst, IsNoLater}
 
 pub GoesFirst-cases : (s t : ℕ) → (s ≡ t) ⊎ (GoesFirst s t ⊎ GoesFirst t s)
@@ -68,3 +71,10 @@ first_below p (suc n) = either (first_below p n) (cases_Bool (p n))
       first = spread (λ t. p t ≡ true → ¬ GoesFirst t n) (λ y b. GoesFirst-asym n n b b) (λ t low y b. both_ways (p t) (none t low) y);
     })
     either (inr none) (inr fails) = inr (spread (λ t. p t ≡ false) fails none)
+
+-- the order as a test
+abbrev pub goes_first : ℕ → ℕ → Bool
+goes_first s t = nat_lt s t
+
+pub goes_first-decides : (s t : ℕ) → Decides (goes_first s t) (GoesFirst s t)
+goes_first-decides s t = Decides-ltb s t

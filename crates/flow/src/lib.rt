@@ -8,6 +8,7 @@ ghost use Rattle.flow.specs.CutLaws.{CutLaws};
 ghost use Rattle.flow.specs.LabelLaws.{LabelLaws};
 ghost use Rattle.flow.specs.HistoryLaws.{HistoryLaws};
 ghost use Rattle.flow.specs.Promises.{PromiseKept};
+ghost use Rattle.flow.specs.Cases.{WorkedCases};
 
 // Accepted changes and draining keep a network sound.
 pub fn keeps_sound_stands() -> u8
@@ -96,6 +97,13 @@ pub fn histories_stand() -> u8
 // Every history of a network that was commissioned and dry keeps the promise.
 pub fn promise_stands() -> u8
     ensures { PromiseKept }
+{
+    0
+}
+
+// The worked cases.
+pub fn worked_cases_hold() -> u8
+    ensures { WorkedCases }
 {
     0
 }

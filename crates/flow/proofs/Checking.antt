@@ -1,0 +1,254 @@
+-- The worked cases, by tests that compute.
+use Rattle.std.proofs.Common.{◌≡◌, ℕ, zero, suc, ◌+◌, ◌*◌, ◌<◌, ◌≤◌, ◌⊎◌, Bool, true, false, not, ◌&&◌, ◌||◌, List, [], ◌∷◌, length, ◌==◌, get_or, ℤ, pos, refl, sym, ap, ◌∙◌, inl, inr, ⊎_elim, arith}
+use Rattle.std.specs.Bool.{Decides}
+use Rattle.std.specs.Prelude.{◌↔◌, IsTrue, nat_lt, nat_le, bytes_eq}
+use Rattle.std.specs.Cmp.Lexicographic.{bytes_decides}
+use Rattle.std.specs.List.{All, AllByRecursion}
+use Rattle.std.proofs.lemmas.List.Elements.{All-from_recursion}
+use Rattle.std.proofs.lemmas.Bool.{true≢false, both_ways, and_parts, or_cases, not-true, cases_Bool, ltb-true, lt-ltb, leb-true, eqb-true}
+use Rattle.std.proofs.lemmas.Bool.Decides.{nat_tests, Decides-below_and}
+use Rattle.std.proofs.lemmas.Int.{ints}
+use Rattle.flow.specs.Net.{Arc, Net}
+use Rattle.flow.specs.Steps.{along_reach, begins, finishes, headroom, IsOpen}
+use Rattle.flow.specs.Flows.{leaving, entering, delivered}
+use Rattle.flow.specs.Routes.{IsWalk, IsRoute, Finished, Reached, GoesFirst, IsFirst}
+use Rattle.flow.specs.Pushes.{pushed, pushed_all, EachPushed, litres_of, Settles}
+use Rattle.flow.specs.Cuts.{IsBottleneck}
+use Rattle.flow.specs.Labels.{Labels, IsAdmissible, IsFirstAdmissible}
+use Rattle.flow.specs.Histories.{marked}
+use Rattle.flow.specs.Cases.{Case, amounts_of, Holds, five, seven, worked, WorkedCases}
+use Rattle.flow.proofs.Walks.{open_in}
+use Rattle.flow.proofs.Besting.{Closed, near_along}
+use Rattle.flow.proofs.Order.{goes_first, goes_first-decides}
+use Rattle.flow.proofs.Firsts.{first_from_labels}
+
+-- a test that two Bools are the same
+abbrev bool_eq : Bool → Bool → Bool
+bool_eq true b = b
+bool_eq false b = not b
+
+bool_eq-true : (a b : Bool) → bool_eq a b ≡ true → a ≡ b
+bool_eq-true true b pass = sym pass
+bool_eq-true false b pass = sym (not-true b pass)
+
+-- a test that every number below n passes another
+abbrev all_below : (ℕ → Bool) → ℕ → Bool
+all_below p zero = true
+all_below p (suc n) = p n && all_below p n
+
+all_below_at : (p : ℕ → Bool) (n : ℕ) → all_below p n ≡ true → (k : ℕ) → k < n → p k ≡ true
+all_below_at p n = (Decides-below_and p (λ k. p k ≡ true) (all_below p) (λ k. (λ e. e, λ e. e)) refl (λ m. refl) n).0
+
+unless : (a b : Bool) → (not a || b) ≡ true → a ≡ true → b ≡ true
+unless true b either a = either
+unless false b either a = absurd (true≢false (sym a))
+
+-- a test that every open step passes another
+abbrev each_open : List Arc → (ℕ → Bool) → Bool
+each_open rs p = all_below (λ s. not (nat_lt 0 (headroom rs s)) || p s) (2 * length rs)
+
+each_open_at : (rs : List Arc) (p : ℕ → Bool) → each_open rs p ≡ true → (s : ℕ) → IsOpen rs s → p s ≡ true
+each_open_at rs p all s opens = unless (nat_lt 0 (headroom rs s)) (p s)
+    (all_below_at (λ t. not (nat_lt 0 (headroom rs t)) || p t) (2 * length rs) all s (omega (arith, open_in rs s opens)))
+    (lt-ltb 0 (headroom rs s) opens)
+
+-- a test that numbers are labels
+abbrev are_labels : Net → (ℕ → ℕ) → Bool
+are_labels g label =
+    (label g.outfall == 0) && each_open g.reaches (λ s. nat_le (label (begins g.reaches s)) (label (finishes g.reaches s) + 1))
+
+labels_from : (g : Net) (label : ℕ → ℕ) → are_labels g label ≡ true → Labels g label
+labels_from g label pass =
+    let x = and_parts (label g.outfall == 0) _ pass in
+    record {
+      outfall = eqb-true (label g.outfall) 0 x.0;
+      falls = λ s opens. leb-true _ _ (each_open_at g.reaches (λ t. nat_le (label (begins g.reaches t)) (label (finishes g.reaches t) + 1)) x.1 s opens);
+    }
+
+-- a test that a list of steps is a walk of admissible steps, each the first of its junction
+abbrev leads : List Arc → (ℕ → ℕ) → ℕ → List ℕ → ℕ → Bool
+leads rs label from [] to = from == to
+leads rs label from (s ∷ ss) to =
+    ((begins rs s == from) && (nat_lt 0 (headroom rs s) && (label (begins rs s) == label (finishes rs s) + 1)))
+    && (each_open rs (λ t. not ((begins rs t == begins rs s) && ((label (begins rs t) == label (finishes rs t) + 1) && goes_first t s)))
+    && leads rs label (finishes rs s) ss to)
+
+leads_from : (rs : List Arc) (label : ℕ → ℕ) (from : ℕ) (ss : List ℕ) (to : ℕ) → leads rs label from ss to ≡ true →
+    IsWalk rs from ss to × AllByRecursion (IsFirstAdmissible label rs) ss
+leads_from rs label from [] to pass = (eqb-true from to pass, tt)
+leads_from rs label from (s ∷ ss) to pass =
+    let earlier : ℕ → Bool = λ t. not ((begins rs t == begins rs s) && ((label (begins rs t) == label (finishes rs t) + 1) && goes_first t s)) in
+    let x = and_parts ((begins rs s == from) && (nat_lt 0 (headroom rs s) && (label (begins rs s) == label (finishes rs s) + 1))) _ pass in
+    let y = and_parts (begins rs s == from) _ x.0 in
+    let z = and_parts (nat_lt 0 (headroom rs s)) _ y.1 in
+    let w = and_parts (each_open rs earlier) _ x.1 in
+    let rest = leads_from rs label (finishes rs s) ss to w.1 in
+    let first : (t : ℕ) → begins rs t ≡ begins rs s → IsAdmissible label rs t → ¬ GoesFirst t s =
+    λ t same a before.
+    let e : earlier t ≡ true = each_open_at rs earlier w.0 t a.opens in
+    let b : goes_first t s ≡ true = (goes_first-decides t s).1 before in
+    let f : label (begins rs t) ≡ label (finishes rs t) + 1 = a.falls in
+    grind (arith, nat_tests) in
+    ((eqb-true _ _ y.0, ltb-true _ _ z.0, rest.0),
+     (record { admissible = record { opens = ltb-true _ _ z.0; falls = eqb-true _ _ z.1 }; first = first }, rest.1))
+
+-- a test that a list of steps is the first shortest route, with labels to show it
+abbrev is_first : Net → List ℕ → List ℕ → Bool
+is_first g labels ss =
+    are_labels g (λ v. get_or labels v 0) && leads g.reaches (λ v. get_or labels v 0) g.intake ss g.outfall
+
+first_from : (g : Net) (labels ss : List ℕ) → is_first g labels ss ≡ true → IsFirst g ss
+first_from g labels ss pass =
+    let label : ℕ → ℕ = λ v. get_or labels v 0 in
+    let x = and_parts (are_labels g label) _ pass in
+    let y = leads_from g.reaches label g.intake ss g.outfall x.1 in
+    first_from_labels g label ss (labels_from g label x.0) y.0 (All-from_recursion (IsFirstAdmissible label g.reaches) ss y.1)
+
+-- a test that each of the routes is so when it is pushed, with the labels of each
+abbrev are_firsts : Net → List (List ℕ) → List (List ℕ) → Bool
+are_firsts g labels [] = true
+are_firsts g [] (ss ∷ more) = false
+are_firsts g (ls ∷ labels) (ss ∷ more) = is_first g ls ss && are_firsts (pushed ss g) labels more
+
+firsts_from : (g : Net) (labels routes : List (List ℕ)) → are_firsts g labels routes ≡ true → EachPushed IsFirst g routes
+firsts_from g labels [] pass = tt
+firsts_from g [] (ss ∷ more) pass = absurd (true≢false (sym pass))
+firsts_from g (ls ∷ labels) (ss ∷ more) pass =
+    let x = and_parts (is_first g ls ss) _ pass in (first_from g ls ss x.0, firsts_from (pushed ss g) labels more x.1)
+
+-- a test that a list of steps is a walk
+abbrev is_walk : List Arc → ℕ → List ℕ → ℕ → Bool
+is_walk rs from [] to = from == to
+is_walk rs from (s ∷ ss) to = (begins rs s == from) && (nat_lt 0 (headroom rs s) && is_walk rs (finishes rs s) ss to)
+
+walk_from : (rs : List Arc) (from : ℕ) (ss : List ℕ) (to : ℕ) → is_walk rs from ss to ≡ true → IsWalk rs from ss to
+walk_from rs from [] to pass = eqb-true from to pass
+walk_from rs from (s ∷ ss) to pass =
+    let x = and_parts (begins rs s == from) _ pass in
+    let y = and_parts (nat_lt 0 (headroom rs s)) _ x.1 in
+    (eqb-true _ _ x.0, ltb-true _ _ y.0, walk_from rs (finishes rs s) ss to y.1)
+
+-- a test that marks are those of the bottleneck: a walk shows that a junction is reached, and no open step leaves the
+-- marked junctions
+abbrev are_marks : Net → List (List ℕ) → List ℕ → Bool
+are_marks g walks marks =
+    marked marks g.intake
+    && (all_below (λ v. not (marked marks v) || is_walk g.reaches g.intake (get_or walks v []) v) g.junctions
+    && each_open g.reaches (λ s. not (marked marks (begins g.reaches s)) || marked marks (finishes g.reaches s)))
+
+bottleneck_from : (g : Net) (walks : List (List ℕ)) (marks : List ℕ) → are_marks g walks marks ≡ true → IsBottleneck g (marked marks)
+bottleneck_from g walks marks pass v low = (reached, near)
+  where
+    x : (marked marks g.intake ≡ true) × ((all_below (λ v. not (marked marks v) || is_walk g.reaches g.intake (get_or walks v []) v) g.junctions
+        && each_open g.reaches (λ s. not (marked marks (begins g.reaches s)) || marked marks (finishes g.reaches s))) ≡ true)
+    x = and_parts (marked marks g.intake) _ pass
+
+    y : (all_below (λ v. not (marked marks v) || is_walk g.reaches g.intake (get_or walks v []) v) g.junctions ≡ true)
+        × (each_open g.reaches (λ s. not (marked marks (begins g.reaches s)) || marked marks (finishes g.reaches s)) ≡ true)
+    y = and_parts (all_below (λ v. not (marked marks v) || is_walk g.reaches g.intake (get_or walks v []) v) g.junctions) _ x.1
+
+    reached : marked marks v ≡ true → Reached g v
+    reached is = (get_or walks v [], walk_from g.reaches g.intake (get_or walks v []) v
+        (unless (marked marks v) _ (all_below_at (λ u. not (marked marks u) || is_walk g.reaches g.intake (get_or walks u []) u) g.junctions y.0 v low) is))
+
+    closed : Closed (marked marks) g.reaches
+    closed s opens from = unless (marked marks (begins g.reaches s)) _
+        (each_open_at g.reaches (λ t. not (marked marks (begins g.reaches t)) || marked marks (finishes g.reaches t)) y.1 s opens) from
+
+    near : Reached g v → marked marks v ≡ true
+    near r = near_along (marked marks) g.reaches closed g.intake r.0 v r.1 x.0
+
+-- no route exists exactly where the outfall is not reached
+finished_from : (g : Net) (marks : List ℕ) → g.outfall < g.junctions → IsBottleneck g (marked marks) →
+    IsTrue (not (marked marks g.outfall)) ↔ Finished g
+finished_from g marks low is = (
+  λ far ss r. both_ways (marked marks g.outfall) (not-true (marked marks g.outfall) far) ((is g.outfall low).1 (ss, r)),
+  λ finished. ⊎_elim (λ (near : marked marks g.outfall ≡ true). let w = (is g.outfall low).0 near in absurd (finished w.0 w.1))
+      (λ (far : marked marks g.outfall ≡ false). rw far refl) (cases_Bool (marked marks g.outfall)),
+)
+
+-- what shows a case: labels for each route, and walks to the reached junctions
+record Shown : Type 0 where
+  labels : List (List ℕ)
+  walks : List (List ℕ)
+
+-- a test of a case
+module _ (c : Case) (shown : Shown) where
+  abbrev left : Net
+  left = pushed_all c.routes c.net
+
+  abbrev holds : Bool
+  holds =
+      are_firsts c.net shown.labels c.routes
+      && ((nat_le (length c.routes) c.budget && (c.finished || (length c.routes == c.budget)))
+      && ((bytes_eq (amounts_of c.net c.routes) c.amounts && (litres_of c.net c.routes == c.litres))
+      && ((leaving left.intake left.reaches == entering left.intake left.reaches + c.delivers)
+      && ((nat_lt left.outfall left.junctions && (bool_eq c.finished (not (marked c.marks left.outfall))))
+      && are_marks left shown.walks c.marks))))
+
+  from_test : holds ≡ true → Holds c
+  from_test pass =
+      let a = and_parts (are_firsts c.net shown.labels c.routes) _ pass in
+      let b = and_parts (nat_le (length c.routes) c.budget && (c.finished || (length c.routes == c.budget))) _ a.1 in
+      let spent = and_parts (nat_le (length c.routes) c.budget) _ b.0 in
+      let d = and_parts (bytes_eq (amounts_of c.net c.routes) c.amounts && (litres_of c.net c.routes == c.litres)) _ b.1 in
+      let adds = and_parts (bytes_eq (amounts_of c.net c.routes) c.amounts) _ d.0 in
+      let e = and_parts (leaving left.intake left.reaches == entering left.intake left.reaches + c.delivers) _ d.1 in
+      let f = and_parts (nat_lt left.outfall left.junctions && (bool_eq c.finished (not (marked c.marks left.outfall)))) _ e.1 in
+      let told = and_parts (nat_lt left.outfall left.junctions) _ f.0 in
+      let near : IsBottleneck left (marked c.marks) = bottleneck_from left shown.walks c.marks f.1 in
+      let flag : c.finished ≡ not (marked c.marks left.outfall) = bool_eq-true c.finished _ told.1 in
+      let none = finished_from left c.marks (ltb-true _ _ told.0) near in
+      let tells : IsTrue c.finished ↔ Finished left = (λ told'. none.0 (sym flag ∙ told'), λ fin. flag ∙ none.1 fin) in
+      record {
+        settles = record {
+          firsts = firsts_from c.net shown.labels c.routes a.0;
+          spent = leb-true _ _ spent.0;
+          stops = ⊎_elim (λ (told' : c.finished ≡ true). inl (tells.0 told')) (λ (all : (length c.routes == c.budget) ≡ true). inr (eqb-true _ _ all))
+              (or_cases c.finished _ spent.1);
+        };
+        amounts = (bytes_decides (amounts_of c.net c.routes) c.amounts).0 adds.0;
+        litres = eqb-true _ _ adds.1;
+        finished = tells;
+        delivers = let whole = eqb-true (leaving left.intake left.reaches) (entering left.intake left.reaches + c.delivers) e.0 in omega (arith, ints);
+        near = near;
+      }
+
+-- a test of a table
+abbrev all_hold : List Case → List Shown → Bool
+all_hold [] shown = true
+all_hold (c ∷ cases) [] = false
+all_hold (c ∷ cases) (x ∷ shown) = holds c x && all_hold cases shown
+
+table_from : (cases : List Case) (shown : List Shown) → all_hold cases shown ≡ true → AllByRecursion Holds cases
+table_from [] shown pass = tt
+table_from (c ∷ cases) [] pass = absurd (true≢false (sym pass))
+table_from (c ∷ cases) (x ∷ shown) pass =
+    let y = and_parts (holds c x) _ pass in (from_test c x y.0, table_from cases shown y.1)
+
+-- the labels of the three routes through the five reaches, and of the two through the seven
+abbrev labels_five : List (List ℕ)
+labels_five = (2 ∷ 1 ∷ 1 ∷ 0 ∷ []) ∷ (2 ∷ 2 ∷ 1 ∷ 0 ∷ []) ∷ (3 ∷ 2 ∷ 1 ∷ 0 ∷ []) ∷ []
+
+abbrev labels_seven : List (List ℕ)
+labels_seven = (3 ∷ 2 ∷ 1 ∷ 1 ∷ 2 ∷ 0 ∷ []) ∷ (5 ∷ 2 ∷ 3 ∷ 1 ∷ 4 ∷ 0 ∷ []) ∷ []
+
+-- walks from the intake to each junction of the five reaches, when none and when two of the routes have been pushed
+abbrev at_first : List (List ℕ)
+at_first = [] ∷ (0 ∷ []) ∷ (2 ∷ []) ∷ (0 ∷ 6 ∷ []) ∷ []
+
+abbrev after_two : List (List ℕ)
+after_two = [] ∷ (0 ∷ []) ∷ (0 ∷ 4 ∷ []) ∷ (0 ∷ 4 ∷ 8 ∷ []) ∷ []
+
+abbrev shown_worked : List Shown
+shown_worked =
+    record { labels = labels_five; walks = [] }
+  ∷ record { labels = []; walks = at_first }
+  ∷ record { labels = labels_five; walks = after_two }
+  ∷ record { labels = labels_five; walks = [] }
+  ∷ record { labels = labels_seven; walks = [] }
+  ∷ record { labels = []; walks = [] }
+  ∷ []
+
+pub worked_cases : WorkedCases
+worked_cases = All-from_recursion Holds worked (table_from worked shown_worked refl)
