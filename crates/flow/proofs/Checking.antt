@@ -88,9 +88,10 @@ leads_from rs label from (s ∷ ss) to pass =
     let e : earlier t ≡ true = each_open_at rs earlier w.0 t a.opens in
     let b : goes_first t s ≡ true = (goes_first-decides t s).1 before in
     let f : label (begins rs t) ≡ label (finishes rs t) + 1 = a.falls in
-    grind (arith, nat_tests) in
-    ((eqb-true _ _ y.0, ltb-true _ _ z.0, rest.0),
-     (record { admissible = record { opens = ltb-true _ _ z.0; falls = eqb-true _ _ z.1 }; first = first }, rest.1))
+    grind (arith, nat_tests) in (
+      (eqb-true _ _ y.0, ltb-true _ _ z.0, rest.0),
+      (record { admissible = record { opens = ltb-true _ _ z.0; falls = eqb-true _ _ z.1 }; first = first }, rest.1),
+    )
 
 -- a test that a list of steps is the first shortest route, with labels to show it
 abbrev is_first : Net → List ℕ → List ℕ → Bool
@@ -148,8 +149,11 @@ bottleneck_from g walks marks pass v low = (reached, near)
     y = and_parts (all_below (λ v. not (marked marks v) || is_walk g.reaches g.intake (get_or walks v []) v) g.junctions) _ x.1
 
     reached : marked marks v ≡ true → Reached g v
-    reached is = (get_or walks v [], walk_from g.reaches g.intake (get_or walks v []) v
-        (unless (marked marks v) _ (all_below_at (λ u. not (marked marks u) || is_walk g.reaches g.intake (get_or walks u []) u) g.junctions y.0 v low) is))
+    reached is = (
+      get_or walks v [],
+      walk_from g.reaches g.intake (get_or walks v []) v
+          (unless (marked marks v) _ (all_below_at (λ u. not (marked marks u) || is_walk g.reaches g.intake (get_or walks u []) u) g.junctions y.0 v low) is),
+    )
 
     closed : Closed (marked marks) g.reaches
     closed s opens from = unless (marked marks (begins g.reaches s)) _
@@ -243,12 +247,12 @@ after_two = [] ∷ (0 ∷ []) ∷ (0 ∷ 4 ∷ []) ∷ (0 ∷ 4 ∷ 8 ∷ []) �
 abbrev shown_worked : List Shown
 shown_worked =
     record { labels = labels_five; walks = [] }
-  ∷ record { labels = []; walks = at_first }
-  ∷ record { labels = labels_five; walks = after_two }
-  ∷ record { labels = labels_five; walks = [] }
-  ∷ record { labels = labels_seven; walks = [] }
-  ∷ record { labels = []; walks = [] }
-  ∷ []
+    ∷ record { labels = []; walks = at_first }
+    ∷ record { labels = labels_five; walks = after_two }
+    ∷ record { labels = labels_five; walks = [] }
+    ∷ record { labels = labels_seven; walks = [] }
+    ∷ record { labels = []; walks = [] }
+    ∷ []
 
 pub worked_cases : WorkedCases
 worked_cases = All-from_recursion Holds worked (table_from worked shown_worked refl)

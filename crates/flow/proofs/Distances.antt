@@ -56,7 +56,7 @@ walk_from_near rs to (suc k) v near = ⊎_elim
 
 near_from_walk : (rs : List Arc) (to k v : ℕ) (ss : List ℕ) → IsWalk rs v ss to → length ss ≤ k → is_near rs to k v ≡ true
 near_from_walk rs to zero v [] w short = grind (arith, nat_tests)
-near_from_walk rs to zero v (s ∷ ss) w short = absurd (let z : ⊥ = omega arith in z)
+near_from_walk rs to zero v (s ∷ ss) w short = absurd (omega arith)
 near_from_walk rs to (suc k) v [] w short = or_left (is_near rs to k v) _ (near_from_walk rs to k v [] w (omega arith))
 near_from_walk rs to (suc k) v (s ∷ ss) w short = or_right (is_near rs to k v) _ ((some_onward rs to k v).1
     (s, omega (arith, open_in rs s w.1), (w.1, (w.0, near_from_walk rs to k (finishes rs s) ss w.2 (omega arith)))))
@@ -79,7 +79,7 @@ distance_le rs to m v =
 -- no walk is shorter than the distance, and where the distance is below m, a walk is no longer
 pub walk_within : (rs : List Arc) (to m v : ℕ) → distance rs to m v < m →
     (ss : List ℕ) × IsWalk rs v ss to × (length ss ≤ distance rs to m v)
-walk_within rs to zero v low = absurd (let z : ⊥ = omega arith in z)
+walk_within rs to zero v low = absurd (omega arith)
 walk_within rs to (suc m) v low = ⊎_elim (near (walk_within rs to m v)) (apart (walk_within rs to m v)) (cases_Bool (is_near rs to m v))
   where
     near : (distance rs to m v < m → (ss : List ℕ) × IsWalk rs v ss to × (length ss ≤ distance rs to m v)) →
@@ -117,8 +117,11 @@ distance_labels g m = record {
   outfall = sum_below-zero (far g.reaches g.outfall g.outfall) m
       (λ k low. let here : is_near g.reaches g.outfall k g.outfall ≡ true = near_from_walk g.reaches g.outfall k g.outfall [] refl (omega arith) in
       rw here refl);
-  falls = λ s opens. omega (arith, shifted_sum (far g.reaches g.outfall (begins g.reaches s)) (far g.reaches g.outfall (finishes g.reaches s))
-      (far_le (is_near g.reaches g.outfall 0 (begins g.reaches s))) (λ k. far_step g.reaches g.outfall k s opens) m);
+  falls = λ s opens. omega (
+    arith,
+    shifted_sum (far g.reaches g.outfall (begins g.reaches s)) (far g.reaches g.outfall (finishes g.reaches s))
+        (far_le (is_near g.reaches g.outfall 0 (begins g.reaches s))) (λ k. far_step g.reaches g.outfall k s opens) m,
+  );
 }
 
 -- each number from the label at the end of a walk to that at its start is the label of some junction on it
@@ -140,7 +143,7 @@ distance_below g joined from to ss low w =
     let h : Labels towards (distance g.reaches to g.junctions) = distance_labels towards g.junctions in
     let many = pigeons (distance g.reaches to g.junctions) (g.junctions + 1) g.junctions
     (λ i less. levels towards (distance g.reaches to g.junctions) joined h from ss to low w i (omega arith) (omega (arith, h.outfall))) in
-    absurd (let z : ⊥ = omega arith in z)) (cases_lt (distance g.reaches to g.junctions from) g.junctions)
+    absurd (omega arith)) (cases_lt (distance g.reaches to g.junctions from) g.junctions)
 
 -- every network has a bottleneck
 pub bottleneck_found : (g : Net) → Shaped g → (near : Side) × IsBottleneck g near
@@ -182,7 +185,7 @@ shortest_labels g ss is = (distance g.reaches g.outfall (length ss), distance_la
 
     tight : (d < length ss) ⊎ (length ss ≤ d) → d ≡ length ss
     tight (inl less) =
-        let x = walk_within g.reaches g.outfall (length ss) g.intake less in absurd (let z : ⊥ = omega (arith, is.least x.0 x.1, x.2) in z)
+        let x = walk_within g.reaches g.outfall (length ss) g.intake less in absurd (omega (arith, is.least x.0 x.1, x.2))
     tight (inr more) = omega (arith, distance_le g.reaches g.outfall (length ss) g.intake)
 
 -- distances up to n are exact labels
@@ -218,12 +221,15 @@ first_admissible label rs v s at is = either (first_below passes (2 * length rs)
 
     either : ((t : ℕ) × FirstBelow passes (2 * length rs) t) ⊎ ((t : ℕ) → t < 2 * length rs → passes t ≡ false) →
         (t : ℕ) × (begins rs t ≡ v) × IsFirstAdmissible label rs t
-    either (inl (t , f)) =
-        let x = (decided t).0 f.passes in
-        (t, x.1.0, record {
-          admissible = record { opens = x.0; falls = x.1.1 };
-          first = λ u there a. f.first u (omega (arith, open_in rs u a.opens)) ((decided u).1 (a.opens, (there ∙ x.1.0, a.falls)));
-        })
+    either (inl (t, f)) =
+        let x = (decided t).0 f.passes in (
+          t,
+          x.1.0,
+          record {
+            admissible = record { opens = x.0; falls = x.1.1 };
+            first = λ u there a. f.first u (omega (arith, open_in rs u a.opens)) ((decided u).1 (a.opens, (there ∙ x.1.0, a.falls)));
+          },
+        )
     either (inr none) =
         absurd (both_ways (passes s) (none s (omega (arith, open_in rs s is.opens))) ((decided s).1 (is.opens, (at, is.falls))))
 
@@ -231,9 +237,9 @@ first_admissible label rs v s at is = either (first_below passes (2 * length rs)
 pub exact_walk : (g : Net) (label : ℕ → ℕ) → Shaped g → ExactLabels g label → (m v : ℕ) → v < g.junctions → label v < g.junctions →
     label v ≡ m → (ss : List ℕ) × IsWalk g.reaches v ss g.outfall × AllByRecursion (IsFirstAdmissible label g.reaches) ss × (length ss ≡ m)
 exact_walk g label shaped exact zero v low less is = ⊎_elim (λ (there : v ≡ g.outfall). ([], there, tt, refl))
-    (λ (ne : v ≢ g.outfall). let x = exact.next v low ne less in absurd (let z : ⊥ = omega (arith, x.2.falls, ap label x.1) in z)) (cases_eq v g.outfall)
+    (λ (ne : v ≢ g.outfall). let x = exact.next v low ne less in absurd (omega (arith, x.2.falls, ap label x.1))) (cases_eq v g.outfall)
 exact_walk g label shaped exact (suc m) v low less is = ⊎_elim
-    (λ (there : v ≡ g.outfall). absurd (let z : ⊥ = omega (arith, exact.labels.outfall, ap label there) in z))
+    (λ (there : v ≡ g.outfall). absurd (omega (arith, exact.labels.outfall, ap label there)))
     (λ (ne : v ≢ g.outfall). onward ne (exact_walk g label shaped exact m)) (cases_eq v g.outfall)
   where
     onward : v ≢ g.outfall →

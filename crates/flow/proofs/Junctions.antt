@@ -98,7 +98,7 @@ pigeons f m n has =
 -- what the reaches with an end at v add, added up over the near junctions: what the reaches whose end is near add
 pub by_junction : (end amount : Arc → ℕ) (near : ℕ → Bool) (n : ℕ) (rs : List Arc) → All (λ r. end r < n) rs →
     sum_below (λ v. cond (near v) (sum_of (λ r. cond (end r == v) (amount r) 0) rs) 0) n
-      ≡ sum_of (λ r. cond (near (end r)) (amount r) 0) rs
+    ≡ sum_of (λ r. cond (near (end r)) (amount r) 0) rs
 by_junction end amount near n [] low = sum_below-zero _ n (λ v less. grind arith)
 by_junction end amount near n (r ∷ rs) low =
     let here : ℕ → ℕ = λ v. cond (near v) (cond (end r == v) (amount r) 0) 0 in

@@ -5,12 +5,12 @@ use Rattle.std.proofs.lemmas.List.Elements.{All-weaker, All-from_recursion, recu
 use Rattle.std.proofs.lemmas.Bool.{cases_eq}
 use Rattle.std.proofs.lemmas.Bool.Decides.{nat_tests}
 use Rattle.flow.specs.Net.{Arc, Net, arc_at, Shaped}
-use Rattle.flow.specs.Steps.{along_reach, goes_back, arc_of, begins, finishes, headroom, IsOpen}
+use Rattle.flow.specs.Steps.{along_reach, goes_back, arc_of, begins_at, finishes_at, begins, finishes, headroom, IsOpen}
 use Rattle.flow.specs.Changes.{with_reaches}
 use Rattle.flow.specs.Routes.{IsWalk, IsRoute}
 use Rattle.flow.specs.Pushes.{least_headroom, shifted, shifted_along, pushed}
 use Rattle.flow.specs.Labels.{Labels, IsAdmissible, relabelled}
-use Rattle.flow.proofs.Walks.{begins_at, finishes_at, room, open_in, ends_in}
+use Rattle.flow.proofs.Walks.{ends_in}
 use Rattle.flow.proofs.Likeness.{bare, begins-alike, finishes-alike}
 use Rattle.flow.proofs.Pushing.{Off, Apart, bare-shifted, headroom-kept, IsWalk-kept}
 
@@ -91,7 +91,7 @@ apart_from_fall label rs from (s ∷ ss) to w f = (
     off [] h low = tt
     off (t ∷ ts) h low = (
       (λ same. let one : t ≡ s = one_step label rs t s same h.0 f.0 in
-      let at : label (begins rs t) ≡ label (begins rs s) = ap (λ (u : ℕ). label (begins rs u)) one in omega (arith, low.0, f.0)),
+          let at : label (begins rs t) ≡ label (begins rs s) = ap (λ (u : ℕ). label (begins rs u)) one in omega (arith, low.0, f.0)),
       off ts h.1 low.1,
     )
 

@@ -14,7 +14,7 @@ use Rattle.flow.specs.RouteLaws.{NoReachTwice, RouteLaws, PushLaws, RunsBounded,
 use Rattle.flow.specs.CutLaws.{CutLaws}
 use Rattle.flow.specs.LabelLaws.{LabelLaws}
 use Rattle.flow.proofs.Likeness.{Shaped-alike}
-use Rattle.flow.proofs.Cutting.{cut_balance, across-le}
+use Rattle.flow.proofs.Cutting.{cut_balance, carried_across-le}
 use Rattle.flow.proofs.Besting.{best_cut, agreed}
 use Rattle.flow.proofs.Pushing.{Off, Apart, raised, least_above_0, Sound-pushed}
 use Rattle.flow.proofs.Labelling.{fall_from_admissible, admissible_from_fall, labels_bound, apart_from_fall, labels_pushed, still_pushed, labels_relabelled, still_elsewhere}
@@ -42,10 +42,10 @@ route_laws = record {
 
 pub push_laws : PushLaws
 push_laws = record {
-  push = λ g ss shaped flow is. raised g ss shaped flow is.route (shortest_apart g ss is);
+  push = λ g ss shaped flow is. raised g ss is.route (shortest_apart g ss is) shaped flow;
   above = least_above_0;
   run = raised_all;
-  sound = λ g ss sound is. Sound-pushed g ss sound is.route (shortest_apart g ss is);
+  sound = λ g ss sound is. Sound-pushed g ss is.route (shortest_apart g ss is) sound;
   drain = drained_flow;
   limit = limited_flow;
 }
@@ -56,7 +56,7 @@ machine_laws = record { one = settles_unique; found = settles_found; enough = en
 pub cut_laws : CutLaws
 cut_laws = record {
   identity = λ g near shaped flow cut. omega (arith, ints, cut_balance g near shaped flow cut);
-  duality = λ g near shaped flow cut. omega (arith, ints, cut_balance g near shaped flow cut, across-le near g.reaches flow.within);
+  duality = λ g near shaped flow cut. omega (arith, ints, cut_balance g near shaped flow cut, carried_across-le near g.reaches flow.within);
   found = bottleneck_found;
   best = best_cut;
   agree = λ g h near other shaped a flow flows finished others is is'.
@@ -66,7 +66,7 @@ cut_laws = record {
 
 pub label_laws : LabelLaws
 label_laws = record {
-  bound = λ g label v ss h w. omega (arith, labels_bound g label h v ss g.outfall w, h.outfall);
+  bound = λ g label from ss to h w. labels_bound g label h from ss to w;
   high = high_finished;
   first = first_from_labels;
   pushing = λ g label ss h r all. labels_pushed g label ss (fall_from_admissible label g.reaches ss all) h;

@@ -6,24 +6,27 @@ use Rattle.std.proofs.lemmas.List.{get_or-map, map-set, set-get_or}
 use Rattle.std.proofs.lemmas.List.Elements.{All-map}
 use Rattle.flow.specs.Bounds.{highest_limit}
 use Rattle.flow.specs.Net.{Arc, Net, no_arc, arc_at, Joined, Shaped}
-use Rattle.flow.specs.Steps.{along_reach, goes_back, begins, finishes}
+use Rattle.flow.specs.Steps.{along_reach, goes_back, begins_at, finishes_at, begins, finishes}
+use Rattle.flow.specs.Flows.{sum_of}
 use Rattle.flow.specs.Changes.{carrying, drained, Alike}
-use Rattle.flow.specs.Cuts.{Side, IsCut, crosses, cut_sum, crossing_count}
+use Rattle.flow.specs.Cuts.{Side, IsCut, crosses, limit_across, cut_sum, crossing_count}
 use Rattle.flow.proofs.Sums.{sum_of-map}
-use Rattle.flow.proofs.Walks.{begins_at, finishes_at}
 use Rattle.flow.proofs.Changing.{drained_at}
 
--- reaches that carry nothing, and are the same else. Two lists are alike when theirs are the same
+-- the reaches with nothing carried. Of two networks that are alike they are the same
 abbrev pub bare : List Arc → List Arc
 bare rs = map (carrying 0) rs
 
 pub bare-alike : (g h : Net) → Alike g h → bare g.reaches ≡ bare h.reaches
 bare-alike g h a = ap (λ (x : Net). x.reaches) a
 
--- a list of which one reach carries another amount
+-- and they are what they were when one reach carries another amount
 pub bare-set : (rs : List Arc) (k a : ℕ) → bare rs ≡ bare (set rs k (carrying a (arc_at rs k)))
 bare-set rs k a =
-    sym (map-set (carrying 0) rs k (carrying a (arc_at rs k)) ∙ ap (set (bare rs) k) (sym (drained_at rs k)) ∙ set-get_or (bare rs) k no_arc)
+    let put = map-set (carrying 0) rs k (carrying a (arc_at rs k)) in
+    let here : set (bare rs) k (carrying 0 (arc_at rs k)) ≡ set (bare rs) k (arc_at (bare rs) k) =
+    ap (set (bare rs) k) (sym (drained_at rs k)) in
+    sym (put ∙ here ∙ set-get_or (bare rs) k no_arc)
 
 -- reach k of both is the same but for what it carries; so the ends of each step are the same
 pub arc-alike : (rs qs : List Arc) → bare rs ≡ bare qs → (k : ℕ) → carrying 0 (arc_at rs k) ≡ carrying 0 (arc_at qs k)
@@ -41,13 +44,14 @@ length-alike rs qs a = sym (length-map rs (carrying 0)) ∙ ap length a ∙ leng
 -- sums to which a reach adds the same whatever it carries
 pub cut_sum-alike : (near : Side) (rs qs : List Arc) → bare rs ≡ bare qs → cut_sum near rs ≡ cut_sum near qs
 cut_sum-alike near rs qs a =
-    sym (sum_of-map (λ r. cond (crosses near r) r.limit 0) (carrying 0) rs)
-    ∙ ap (cut_sum near) a ∙ sum_of-map (λ r. cond (crosses near r) r.limit 0) (carrying 0) qs
+    let f : Arc → ℕ = limit_across near in
+    sym (sum_of-map f (carrying 0) rs) ∙ ap (sum_of f) a ∙ sum_of-map f (carrying 0) qs
 
-pub crossing_count-alike : (near : Side) (rs qs : List Arc) → bare rs ≡ bare qs → crossing_count near rs ≡ crossing_count near qs
+pub crossing_count-alike : (near : Side) (rs qs : List Arc) → bare rs ≡ bare qs →
+    crossing_count near rs ≡ crossing_count near qs
 crossing_count-alike near rs qs a =
-    sym (sum_of-map (λ r. cond (crosses near r) 1 0) (carrying 0) rs)
-    ∙ ap (crossing_count near) a ∙ sum_of-map (λ r. cond (crosses near r) 1 0) (carrying 0) qs
+    let f : Arc → ℕ = λ r. cond (crosses near r) 1 0 in
+    sym (sum_of-map f (carrying 0) rs) ∙ ap (sum_of f) a ∙ sum_of-map f (carrying 0) qs
 
 -- what holds of all reaches made from others holds of the others, each in its new form
 All-unmap : (P : Arc → Type 0) (f : Arc → Arc) (rs : List Arc) → All P (map f rs) → All (λ r. P (f r)) rs

@@ -48,7 +48,7 @@ pub raised_all : (g : Net) (routes : List (List ℕ)) → Shaped g → IsFlow g 
     IsRaised g (pushed_all routes g) (litres_of g routes)
 raised_all g [] shaped flow each = record { alike = refl; flow = flow; more = omega (arith, ints) }
 raised_all g (ss ∷ more) shaped flow each =
-    let x = raised g ss shaped flow each.0.route (shortest_apart g ss each.0) in
+    let x = raised g ss each.0.route (shortest_apart g ss each.0) shaped flow in
     let y = raised_all (pushed ss g) more (Shaped-alike g (pushed ss g) x.alike shaped) x.flow each.1 in
     record { alike = x.alike ∙ y.alike; flow = y.flow; more = omega (arith, ints, x.more, y.more) }
 
@@ -87,7 +87,7 @@ settles_found g (suc b) shaped =
     either : ((ss : List ℕ) × IsFirst g ss) ⊎ Finished g → ((ss : List ℕ) → (routes : List (List ℕ)) × Settles (pushed ss g) b routes) →
         (routes : List (List ℕ)) × Settles g (suc b) routes
     either (inr finished) rest = ([], record { firsts = tt; spent = omega arith; stops = inl finished })
-    either (inl (ss , is)) rest =
+    either (inl (ss, is)) rest =
         let x = rest ss in
         (ss ∷ x.0, record { firsts = (is, x.1.firsts); spent = omega (arith, x.1.spent); stops = stopped x.0 x.1.stops })
       where
@@ -109,6 +109,6 @@ enough g budget routes shaped p big =
         ((ss : List ℕ) × IsFirst (pushed_all routes g) ss) ⊎ Finished (pushed_all routes g) → Finished (pushed_all routes g)
     either (inl finished) next = finished
     either (inr spent) (inr finished) = finished
-    either (inr spent) (inl (ss , is)) =
+    either (inr spent) (inl (ss, is)) =
         let most = runs_bounded g (routes ++ ss ∷ []) shaped (EachPushed-append IsShortest g routes (ss ∷ []) each (is.shortest, tt)) in
         absurd (let z : ⊥ = omega (arith, most.total, length-append routes (ss ∷ [])) in z)

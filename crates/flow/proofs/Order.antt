@@ -41,35 +41,47 @@ first_below p (suc n) = either (first_below p n) (cases_Bool (p n))
     spread P at below t low = ⊎_elim (λ (same : t ≡ n). rw same at) (λ (ne : t ≡ n → ⊥). below t (omega arith)) (cases_eq t n)
 
     asked : ((s : ℕ) × FirstBelow p n s) → p n ≡ true → (s : ℕ) × FirstBelow p (suc n) s
-    asked (s , is) here = ordered (GoesFirst-cases n s)
+    asked (s, is) here = ordered (GoesFirst-cases n s)
       where
         ordered : (n ≡ s) ⊎ (GoesFirst n s ⊎ GoesFirst s n) → (s : ℕ) × FirstBelow p (suc n) s
         ordered (inl same) = absurd (let z : ⊥ = omega (arith, is.low) in z)
-        ordered (inr (inl before)) = (n, record {
-          low = omega arith;
-          passes = here;
-          first = spread (λ t. p t ≡ true → ¬ GoesFirst t n) (λ y b. GoesFirst-asym n n b b)
-              (λ t low y b. is.first t low y (GoesFirst-trans t n s b before));
-        })
-        ordered (inr (inr behind)) = (s, record {
-          low = omega (arith, is.low);
-          passes = is.passes;
-          first = spread (λ t. p t ≡ true → ¬ GoesFirst t s) (λ y b. GoesFirst-asym s n behind b) is.first;
-        })
+        ordered (inr (inl before)) = (
+          n,
+          record {
+            low = omega arith;
+            passes = here;
+            first = spread (λ t. p t ≡ true → ¬ GoesFirst t n) (λ y b. GoesFirst-asym n n b b)
+                (λ t low y b. is.first t low y (GoesFirst-trans t n s b before));
+          },
+        )
+        ordered (inr (inr behind)) = (
+          s,
+          record {
+            low = omega (arith, is.low);
+            passes = is.passes;
+            first = spread (λ t. p t ≡ true → ¬ GoesFirst t s) (λ y b. GoesFirst-asym s n behind b) is.first;
+          },
+        )
 
     either : ((s : ℕ) × FirstBelow p n s) ⊎ ((t : ℕ) → t < n → p t ≡ false) → (p n ≡ true) ⊎ (p n ≡ false) →
         ((s : ℕ) × FirstBelow p (suc n) s) ⊎ ((t : ℕ) → t < suc n → p t ≡ false)
     either (inl one) (inl here) = inl (asked one here)
-    either (inl (s , is)) (inr fails) = inl (s, record {
-      low = omega (arith, is.low);
-      passes = is.passes;
-      first = spread (λ t. p t ≡ true → ¬ GoesFirst t s) (λ y b. both_ways (p n) fails y) is.first;
-    })
-    either (inr none) (inl here) = inl (n, record {
-      low = omega arith;
-      passes = here;
-      first = spread (λ t. p t ≡ true → ¬ GoesFirst t n) (λ y b. GoesFirst-asym n n b b) (λ t low y b. both_ways (p t) (none t low) y);
-    })
+    either (inl (s, is)) (inr fails) = inl (
+      s,
+      record {
+        low = omega (arith, is.low);
+        passes = is.passes;
+        first = spread (λ t. p t ≡ true → ¬ GoesFirst t s) (λ y b. both_ways (p n) fails y) is.first;
+      },
+    )
+    either (inr none) (inl here) = inl (
+      n,
+      record {
+        low = omega arith;
+        passes = here;
+        first = spread (λ t. p t ≡ true → ¬ GoesFirst t n) (λ y b. GoesFirst-asym n n b b) (λ t low y b. both_ways (p t) (none t low) y);
+      },
+    )
     either (inr none) (inr fails) = inr (spread (λ t. p t ≡ false) fails none)
 
 -- the order as a test

@@ -140,12 +140,14 @@ run_of : (part : List Event) (g : Net) → All (λ e. ¬ Disturbs e) part → Is
     (routes : List (List ℕ)) × IsRun g (after_calls part g) part routes
 run_of [] g calm h = ([], record { firsts = tt; leaves = refl; counts = refl })
 run_of (settling budget routes answer ∷ es) g calm h =
-    let x = run_of es (pushed_all routes g) (All-tail (λ e. ¬ Disturbs e) (settling budget routes answer) es calm) h.1 in
-    (routes ++ x.0, record {
-      firsts = EachPushed-append IsFirst g routes x.0 h.0.settles.firsts x.1.firsts;
-      leaves = x.1.leaves ∙ sym (pushed_all-append routes x.0 g);
-      counts = omega (arith, x.1.counts, h.0.counts, length-append routes x.0);
-    })
+    let x = run_of es (pushed_all routes g) (All-tail (λ e. ¬ Disturbs e) (settling budget routes answer) es calm) h.1 in (
+      routes ++ x.0,
+      record {
+        firsts = EachPushed-append IsFirst g routes x.0 h.0.settles.firsts x.1.firsts;
+        leaves = x.1.leaves ∙ sym (pushed_all-append routes x.0 g);
+        counts = omega (arith, x.1.counts, h.0.counts, length-append routes x.0);
+      },
+    )
 run_of (limit_change k q ∷ es) g calm h = absurd (All-head (λ e. ¬ Disturbs e) (limit_change k q) es calm tt)
 run_of (draining ∷ es) g calm h = absurd (All-head (λ e. ¬ Disturbs e) draining es calm tt)
 run_of (e ∷ es) g calm h = let x = run_of es g (All-tail (λ c. ¬ Disturbs c) e es calm) h.1 in
@@ -227,9 +229,11 @@ one_settling g budget routes others answer another p q =
     let told : IsTrue another.finished → Finished (pushed_all routes g) = λ t. subst (λ xs. Finished (pushed_all xs g)) (sym same) (q.tells.0 t) in
     let tells : Finished (pushed_all routes g) → IsTrue another.finished = λ f. q.tells.1 (subst (λ xs. Finished (pushed_all xs g)) same f) in
     let finished : answer.finished ≡ another.finished =
-    same_from_decides {P = Finished (pushed_all routes g)} answer.finished another.finished (p.tells.0, p.tells.1) (told, tells) in
-    (same, ap (λ (n : ℕ). outcome n answer.litres answer.finished) count ∙ ap (λ (n : ℕ). outcome another.routes n answer.finished) litres
-    ∙ ap (outcome another.routes another.litres) finished)
+    same_from_decides {P = Finished (pushed_all routes g)} answer.finished another.finished (p.tells.0, p.tells.1) (told, tells) in (
+      same,
+      ap (λ (n : ℕ). outcome n answer.litres answer.finished) count ∙ ap (λ (n : ℕ). outcome another.routes n answer.finished) litres
+          ∙ ap (outcome another.routes another.litres) finished,
+    )
 
 pub history_laws : HistoryLaws
 history_laws = record {

@@ -61,8 +61,11 @@ sharing l (ss ∷ more) = one_at (length ss) l + sharing l more
 sharing-none : (l : ℕ) (routes : List (List ℕ)) → All (λ ss. l < length ss) routes → sharing l routes ≡ 0
 sharing-none l [] longer = refl
 sharing-none l (ss ∷ more) longer =
-    omega (arith, one_at-other (length ss) l (λ same. omega (arith, All-head (λ ts. l < length ts) ss more longer)),
-    sharing-none l more (All-tail (λ ts. l < length ts) ss more longer))
+    omega (
+      arith,
+      one_at-other (length ss) l (λ same. omega (arith, All-head (λ ts. l < length ts) ss more longer)),
+      sharing-none l more (All-tail (λ ts. l < length ts) ss more longer),
+    )
 
 -- at most as many routes have the length that the labels say as there are reaches with an admissible step
 sharing-live : (g : Net) (label : ℕ → ℕ) (routes : List (List ℕ)) → g.intake ≢ g.outfall → Labels g label → EachPushed IsShortest g routes →
@@ -76,8 +79,12 @@ sharing-live g label (ss ∷ more) differ h each =
     here : label g.intake ≡ length ss → sharing (label g.intake) more ≤ live_count label (pushed ss g).reaches →
         one_at (length ss) (label g.intake) + sharing (label g.intake) more ≤ live_count label g.reaches
     here tight rest =
-        omega (arith, rest, one_at-same (length ss) (label g.intake) (sym tight),
-        spent_pushed g label ss differ each.0.route (falls_along g label h ss each.0.route tight))
+        omega (
+          arith,
+          rest,
+          one_at-same (length ss) (label g.intake) (sym tight),
+          spent_pushed g label ss differ each.0.route (falls_along g label h ss each.0.route tight),
+        )
 
     longer : label g.intake ≢ length ss → one_at (length ss) (label g.intake) + sharing (label g.intake) more ≤ live_count label g.reaches
     longer ne =
@@ -92,8 +99,12 @@ sharing-le : (l : ℕ) (g : Net) (routes : List (List ℕ)) → g.intake ≢ g.o
 sharing-le l g [] differ each = omega arith
 sharing-le l g (ss ∷ more) differ each =
     ⊎_elim here (λ (ne : length ss ≡ l → ⊥).
-    omega (arith, sharing-le l (pushed ss g) more differ each.1, one_at-other (length ss) l ne,
-    length-alike g.reaches (pushed ss g).reaches (bare-alike g (pushed ss g) (Alike-pushed ss g)))) (cases_eq (length ss) l)
+    omega (
+      arith,
+      sharing-le l (pushed ss g) more differ each.1,
+      one_at-other (length ss) l ne,
+      length-alike g.reaches (pushed ss g).reaches (bare-alike g (pushed ss g) (Alike-pushed ss g)),
+    )) (cases_eq (length ss) l)
   where
     here : length ss ≡ l → sharing l (ss ∷ more) ≤ length g.reaches
     here is =
@@ -119,8 +130,13 @@ sharing-all n (ss ∷ more) within =
     let one : sum_below here n ≡ here (length ss - 1) =
     sum_below-one here (length ss - 1) n (omega arith) (λ i low ne. one_at-other (length ss) (i + 1) (λ same. ne (omega arith))) in
     let is : here (length ss - 1) ≡ 1 = one_at-same (length ss) (length ss - 1 + 1) (omega arith) in
-    omega (arith, one, is, sum_below-add here (λ i. sharing (i + 1) more) n,
-    sharing-all n more (All-tail (λ ts. (1 ≤ length ts) × (length ts ≤ n)) ss more within))
+    omega (
+      arith,
+      one,
+      is,
+      sum_below-add here (λ i. sharing (i + 1) more) n,
+      sharing-all n more (All-tail (λ ts. (1 ≤ length ts) × (length ts ≤ n)) ss more within),
+    )
 
 pub runs_bounded : (g : Net) (routes : List (List ℕ)) → Shaped g → EachPushed IsShortest g routes → IsBounded g routes
 runs_bounded g routes shaped each = record {
@@ -128,7 +144,10 @@ runs_bounded g routes shaped each = record {
   sharing = λ l. subst (λ (k : ℕ). k ≤ length g.reaches)
       (is_count_by (sharing l) (λ ss. length ss == l) refl (λ ss more. grind (arith, nat_tests)) routes) (sharing-le l g routes shaped.ends_differ each);
   short = short g routes shaped each;
-  total = omega (arith, sharing-all (g.junctions - 1) routes (short g routes shaped each),
-      sum_below-le (λ i. sharing (i + 1) routes) (λ i. length g.reaches) (g.junctions - 1) (λ i low. sharing-le (i + 1) g routes shaped.ends_differ each),
-      sum_below-const (length g.reaches) (g.junctions - 1));
+  total = omega (
+    arith,
+    sharing-all (g.junctions - 1) routes (short g routes shaped each),
+    sum_below-le (λ i. sharing (i + 1) routes) (λ i. length g.reaches) (g.junctions - 1) (λ i low. sharing-le (i + 1) g routes shaped.ends_differ each),
+    sum_below-const (length g.reaches) (g.junctions - 1),
+  );
 }

@@ -4,19 +4,19 @@ use Rattle.std.specs.Prelude.{nat_lt, slice_index_or}
 use Rattle.std.proofs.lemmas.Bool.{cases_lt}
 use Rattle.std.proofs.lemmas.Bool.Decides.{nat_tests}
 use Rattle.flow.specs.Net.{Arc, Net}
-use Rattle.flow.specs.Steps.{along_reach, goes_back, arc_of, finishes, headroom, IsOpen}
+use Rattle.flow.specs.Steps.{along_reach, goes_back, arc_of, begins_at, finishes_at, headroom_at, finishes, headroom, IsOpen}
 use Rattle.flow.specs.Flows.{sum_of}
 use Rattle.flow.specs.Changes.{carrying}
 use Rattle.flow.specs.Routes.{IsWalk, IsRoute}
 use Rattle.flow.specs.Pushes.{least_headroom, amount_after, shifted, shifted_along, pushed}
 use Rattle.flow.proofs.Sums.{sum_of-le, sum_of-set, tick}
-use Rattle.flow.proofs.Walks.{begins_at, finishes_at, room, open_in}
+use Rattle.flow.proofs.Walks.{open_in}
 use Rattle.flow.proofs.Pushing.{Off, Apart, bare-shifted, headroom-kept, IsWalk-kept}
 use Rattle.flow.proofs.Labelling.{Falls, AllFall, AllFall-alike, apart_from_fall}
 
 -- whether a step along a reach is admissible, by the way along it; whether either step along it is
 abbrev pub admissible_at : (ℕ → ℕ) → Bool → Arc → Bool
-admissible_at label back r = nat_lt 0 (room back r) && (label (begins_at back r) == label (finishes_at back r) + 1)
+admissible_at label back r = nat_lt 0 (headroom_at back r) && (label (begins_at back r) == label (finishes_at back r) + 1)
 
 abbrev pub is_live : (ℕ → ℕ) → Arc → Bool
 is_live label r = admissible_at label false r || admissible_at label true r
@@ -34,13 +34,13 @@ live_count-le label rs =
     omega (arith, sum_of-le (λ r. tick (is_live label r)) 1 rs (λ k d low. tick_le (is_live label (slice_index_or rs k d))))
 
 -- a reach with an admissible step is live; when all that the step can take is shifted along it, it is so no more
-live_here : (label : ℕ → ℕ) (back : Bool) (r : Arc) → 0 < room back r → label (begins_at back r) ≡ label (finishes_at back r) + 1 →
+live_here : (label : ℕ → ℕ) (back : Bool) (r : Arc) → 0 < headroom_at back r → label (begins_at back r) ≡ label (finishes_at back r) + 1 →
     tick (is_live label r) ≡ 1
 live_here label true r opens falls = grind (arith, nat_tests)
 live_here label false r opens falls = grind (arith, nat_tests)
 
 spent_here : (label : ℕ → ℕ) (back : Bool) (r : Arc) → label (begins_at back r) ≡ label (finishes_at back r) + 1 →
-    tick (is_live label (carrying (cond back (r.carried - room back r) (r.carried + room back r)) r)) ≡ 0
+    tick (is_live label (carrying (amount_after (headroom_at back r) back r) r)) ≡ 0
 spent_here label true r falls = grind (arith, nat_tests)
 spent_here label false r falls = grind (arith, nat_tests)
 
@@ -48,28 +48,38 @@ spent_here label false r falls = grind (arith, nat_tests)
 live_shifted : (label : ℕ → ℕ) (d : ℕ) (rs : List Arc) (s : ℕ) → IsOpen rs s → Falls label rs s →
     live_count label (shifted d rs s) ≤ live_count label rs
 live_shifted label d rs s opens falls =
-    let r : Arc = carrying (amount_after d rs s) (arc_of rs s) in
-    omega (arith, sum_of-set (λ q. tick (is_live label q)) rs (along_reach s) r (open_in rs s opens),
-    live_here label (goes_back s) (arc_of rs s) opens falls, tick_le (is_live label r))
+    let r : Arc = carrying (amount_after d (goes_back s) (arc_of rs s)) (arc_of rs s) in
+    omega (
+      arith,
+      sum_of-set (λ q. tick (is_live label q)) rs (along_reach s) r (open_in rs s opens),
+      live_here label (goes_back s) (arc_of rs s) opens falls,
+      tick_le (is_live label r),
+    )
 
 live_spent : (label : ℕ → ℕ) (d : ℕ) (rs : List Arc) (s : ℕ) → IsOpen rs s → Falls label rs s → headroom rs s ≡ d →
     live_count label (shifted d rs s) < live_count label rs
 live_spent label d rs s opens falls all =
-    let r : Arc = carrying (amount_after d rs s) (arc_of rs s) in
+    let r : Arc = carrying (amount_after d (goes_back s) (arc_of rs s)) (arc_of rs s) in
     let spent : tick (is_live label r) ≡ 0 =
-    subst (λ (x : ℕ). tick (is_live label (carrying (cond (goes_back s) ((arc_of rs s).carried - x) ((arc_of rs s).carried + x)) (arc_of rs s))) ≡ 0)
+    subst (λ (x : ℕ). tick (is_live label (carrying (amount_after x (goes_back s) (arc_of rs s)) (arc_of rs s))) ≡ 0)
     all (spent_here label (goes_back s) (arc_of rs s) falls) in
-    omega (arith, sum_of-set (λ q. tick (is_live label q)) rs (along_reach s) r (open_in rs s opens),
-    live_here label (goes_back s) (arc_of rs s) opens falls)
+    omega (
+      arith,
+      sum_of-set (λ q. tick (is_live label q)) rs (along_reach s) r (open_in rs s opens),
+      live_here label (goes_back s) (arc_of rs s) opens falls,
+    )
 
 -- so do the steps of a walk
 live_along : (label : ℕ → ℕ) (d : ℕ) (rs : List Arc) (from : ℕ) (ss : List ℕ) (to : ℕ) → IsWalk rs from ss to → Apart ss →
     AllFall label rs ss → live_count label (shifted_along d rs ss) ≤ live_count label rs
 live_along label d rs from [] to w apart f = omega arith
 live_along label d rs from (s ∷ ss) to w apart f =
-    omega (arith, live_shifted label d rs s w.1 f.0,
-    live_along label d (shifted d rs s) (finishes rs s) ss to (IsWalk-kept d rs s (finishes rs s) ss to apart.0 w.2) apart.1
-    (AllFall-alike label rs (shifted d rs s) (bare-shifted d rs s) ss f.1))
+    omega (
+      arith,
+      live_shifted label d rs s w.1 f.0,
+      live_along label d (shifted d rs s) (finishes rs s) ss to (IsWalk-kept d rs s (finishes rs s) ss to apart.0 w.2) apart.1
+          (AllFall-alike label rs (shifted d rs s) (bare-shifted d rs s) ss f.1),
+    )
 
 -- some step of a list can take d litres and no more
 abbrev Takes : ℕ → List Arc → List ℕ → Type 0
@@ -99,13 +109,19 @@ spent_along : (label : ℕ → ℕ) (d : ℕ) (rs : List Arc) (from : ℕ) (ss :
     AllFall label rs ss → Takes d rs ss → live_count label (shifted_along d rs ss) < live_count label rs
 spent_along label d rs from [] to w apart f takes = absurd takes
 spent_along label d rs from (s ∷ ss) to w apart f (inl here) =
-    omega (arith, live_spent label d rs s w.1 f.0 here,
-    live_along label d (shifted d rs s) (finishes rs s) ss to (IsWalk-kept d rs s (finishes rs s) ss to apart.0 w.2) apart.1
-    (AllFall-alike label rs (shifted d rs s) (bare-shifted d rs s) ss f.1))
+    omega (
+      arith,
+      live_spent label d rs s w.1 f.0 here,
+      live_along label d (shifted d rs s) (finishes rs s) ss to (IsWalk-kept d rs s (finishes rs s) ss to apart.0 w.2) apart.1
+          (AllFall-alike label rs (shifted d rs s) (bare-shifted d rs s) ss f.1),
+    )
 spent_along label d rs from (s ∷ ss) to w apart f (inr there) =
-    omega (arith, live_shifted label d rs s w.1 f.0,
-    spent_along label d (shifted d rs s) (finishes rs s) ss to (IsWalk-kept d rs s (finishes rs s) ss to apart.0 w.2) apart.1
-    (AllFall-alike label rs (shifted d rs s) (bare-shifted d rs s) ss f.1) (takes_kept d rs s ss apart.0 there))
+    omega (
+      arith,
+      live_shifted label d rs s w.1 f.0,
+      spent_along label d (shifted d rs s) (finishes rs s) ss to (IsWalk-kept d rs s (finishes rs s) ss to apart.0 w.2) apart.1
+          (AllFall-alike label rs (shifted d rs s) (bare-shifted d rs s) ss f.1) (takes_kept d rs s ss apart.0 there),
+    )
 
 pub spent_pushed : (g : Net) (label : ℕ → ℕ) (ss : List ℕ) → g.intake ≢ g.outfall → IsRoute g ss → AllFall label g.reaches ss →
     live_count label (pushed ss g).reaches < live_count label g.reaches

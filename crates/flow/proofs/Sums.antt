@@ -1,7 +1,7 @@
 -- Sums over reaches.
 use Rattle.std.proofs.Common.{◌≡◌, ℕ, zero, suc, ◌+◌, ◌*◌, ◌<◌, ◌≤◌, ◌≢◌, List, [], ◌∷◌, ◌++◌, map, length, set, Bool, cond, refl, ap, ⊎_elim, arith}
 use Rattle.std.specs.List.{All}
-use Rattle.std.proofs.lemmas.List.Elements.{All-from_get_or}
+use Rattle.std.proofs.lemmas.List.Elements.{All-nil, All-cons, All-head, All-tail, All-from_get_or}
 use Rattle.std.proofs.lemmas.List.{set_past}
 use Rattle.std.proofs.lemmas.Bool.{cases_lt}
 use Rattle.std.proofs.lemmas.Bool.Decides.{nat_tests}
@@ -65,32 +65,32 @@ sum_of-set f (q ∷ rs) zero r low = omega arith
 sum_of-set f (q ∷ rs) (suc k) r low = omega (arith, sum_of-set f rs k r (omega arith))
 
 -- a sum to which the new reach adds what the old one added
-pub sum_of-set_same : (f : Arc → ℕ) (rs : List Arc) (k : ℕ) (r : Arc) → f r ≡ f (arc_at rs k) → sum_of f (set rs k r) ≡ sum_of f rs
+pub sum_of-set_same : (f : Arc → ℕ) (rs : List Arc) (k : ℕ) (r : Arc) → f r ≡ f (arc_at rs k) →
+    sum_of f (set rs k r) ≡ sum_of f rs
 sum_of-set_same f rs k r same = ⊎_elim
     (λ (low : k < length rs). omega (arith, sum_of-set f rs k r low))
     (λ (past : length rs ≤ k). ap (sum_of f) (set_past rs k r past)) (cases_lt k (length rs))
 
 -- a sum of which each reach adds no more than to another
-pub sum_of-below : (f h : Arc → ℕ) (rs : List Arc) → All (λ r. f r ≤ h r) rs → sum_of f rs ≤ sum_of h rs
-sum_of-below f h [] each = omega arith
-sum_of-below f h (r ∷ rs) each =
-    omega (arith, each 0 no_arc (omega arith), sum_of-below f h rs (λ k d low. each (suc k) d (omega arith)))
+pub sum_of-below : (f h : Arc → ℕ) (P : Arc → Type 0) → ((r : Arc) → P r → f r ≤ h r) → (rs : List Arc) → All P rs →
+    sum_of f rs ≤ sum_of h rs
+sum_of-below f h P le [] all = omega arith
+sum_of-below f h P le (r ∷ rs) all =
+    omega (arith, le r (All-head P r rs all), sum_of-below f h P le rs (All-tail P r rs all))
 
 -- a sum over other reaches, made one by one
 pub sum_of-map : (f : Arc → ℕ) (g : Arc → Arc) (rs : List Arc) → sum_of f (map g rs) ≡ sum_of (λ r. f (g r)) rs
 sum_of-map f g [] = refl
 sum_of-map f g (r ∷ rs) = omega (arith, sum_of-map f g rs)
 
--- two sums are the same, of which each reach adds no more to the one than to the other: it adds the same to both
-pub sum_of-tight : (f h : Arc → ℕ) (rs : List Arc) → All (λ r. f r ≤ h r) rs → sum_of f rs ≡ sum_of h rs →
-    All (λ r. f r ≡ h r) rs
-sum_of-tight f h [] each same k d low = absurd (let z : ⊥ = omega arith in z)
-sum_of-tight f h (r ∷ rs) each same zero d low =
-    let rest = sum_of-below f h rs (λ k e less. each (suc k) e (omega arith)) in omega (arith, rest, each 0 no_arc (omega arith))
-sum_of-tight f h (r ∷ rs) each same (suc k) d low =
-    let below = λ (i : ℕ) (e : Arc) (less : i < length rs). each (suc i) e (omega arith) in
-    let rest = sum_of-below f h rs below in
-    sum_of-tight f h rs below (omega (arith, rest, each 0 no_arc (omega arith))) k d (omega arith)
+-- where the two sums are the same, each reach adds the same to both
+pub sum_of-tight : (f h : Arc → ℕ) (P : Arc → Type 0) → ((r : Arc) → P r → f r ≤ h r) → (rs : List Arc) → All P rs →
+    sum_of f rs ≡ sum_of h rs → All (λ r. f r ≡ h r) rs
+sum_of-tight f h P le [] all same = All-nil (λ r. f r ≡ h r)
+sum_of-tight f h P le (r ∷ rs) all same =
+    let first = le r (All-head P r rs all) in
+    let rest = sum_of-below f h P le rs (All-tail P r rs all) in
+    All-cons (λ q. f q ≡ h q) r rs (omega arith) (sum_of-tight f h P le rs (All-tail P r rs all) (omega arith))
 
 -- 1 for yes, 0 for no
 abbrev pub tick : Bool → ℕ

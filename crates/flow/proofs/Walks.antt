@@ -6,20 +6,11 @@ use Rattle.std.proofs.lemmas.List.Elements.{All-get_or}
 use Rattle.std.proofs.lemmas.Bool.{cases_lt}
 use Rattle.std.proofs.lemmas.Bool.Decides.{nat_tests}
 use Rattle.flow.specs.Net.{Arc, no_arc, arc_at, Joined}
-use Rattle.flow.specs.Steps.{along_reach, goes_back, arc_of, begins, finishes, headroom, IsOpen}
+use Rattle.flow.specs.Steps.{along_reach, goes_back, arc_of, begins_at, finishes_at, headroom_at, begins, finishes, headroom, IsOpen}
 use Rattle.flow.specs.Routes.{IsWalk}
 
--- the ends of a reach and its headroom, by the way along it
-abbrev pub begins_at : Bool → Arc → ℕ
-begins_at back r = cond back r.head r.tail
-
-abbrev pub finishes_at : Bool → Arc → ℕ
-finishes_at back r = cond back r.tail r.head
-
-abbrev pub room : Bool → Arc → ℕ
-room back r = cond back r.carried (r.limit - r.carried)
-
-no_room : (back : Bool) → room back no_arc ≡ 0
+-- past the end of the list a step has no headroom
+no_room : (back : Bool) → headroom_at back no_arc ≡ 0
 no_room true = refl
 no_room false = refl
 
@@ -27,7 +18,7 @@ no_room false = refl
 pub open_in : (rs : List Arc) (s : ℕ) → IsOpen rs s → along_reach s < length rs
 open_in rs s opens = ⊎_elim (λ (low : along_reach s < length rs). low)
     (λ (high : length rs ≤ along_reach s).
-    let past : headroom rs s ≡ room (goes_back s) no_arc = ap (room (goes_back s)) (get_or_past rs (along_reach s) no_arc high) in
+    let past : headroom rs s ≡ headroom_at (goes_back s) no_arc = ap (headroom_at (goes_back s)) (get_or_past rs (along_reach s) no_arc high) in
     absurd (let z : ⊥ = omega (arith, past, no_room (goes_back s)) in z)) (cases_lt (along_reach s) (length rs))
 
 -- the ends of an open step are two different junctions

@@ -60,27 +60,48 @@ bare = record { junctions = 2; intake = 0; outfall = 1; reaches = [] }
 abbrev pub worked : List Case
 worked =
     record {
-      net = five; budget = 10;
-      routes = (0 ∷ 6 ∷ []) ∷ (2 ∷ 8 ∷ []) ∷ (0 ∷ 4 ∷ 8 ∷ []) ∷ []; amounts = 2 ∷ 2 ∷ 1 ∷ [];
-      litres = 5; finished = true; delivers = 5; marks = 1 ∷ 0 ∷ 0 ∷ 0 ∷ [];
+      net = five;
+      budget = 10;
+      routes = (0 ∷ 6 ∷ []) ∷ (2 ∷ 8 ∷ []) ∷ (0 ∷ 4 ∷ 8 ∷ []) ∷ [];
+      amounts = 2 ∷ 2 ∷ 1 ∷ [];
+      litres = 5;
+      finished = true;
+      delivers = 5;
+      marks = 1 ∷ 0 ∷ 0 ∷ 0 ∷ [];
     }
-  ∷ record { net = five; budget = 0; routes = []; amounts = []; litres = 0; finished = false; delivers = 0; marks = 1 ∷ 1 ∷ 1 ∷ 1 ∷ [] }
-  ∷ record {
-      net = five; budget = 2; routes = (0 ∷ 6 ∷ []) ∷ (2 ∷ 8 ∷ []) ∷ []; amounts = 2 ∷ 2 ∷ [];
-      litres = 4; finished = false; delivers = 4; marks = 1 ∷ 1 ∷ 1 ∷ 1 ∷ [];
+    ∷ record { net = five; budget = 0; routes = []; amounts = []; litres = 0; finished = false; delivers = 0; marks = 1 ∷ 1 ∷ 1 ∷ 1 ∷ [] }
+    ∷ record {
+      net = five;
+      budget = 2;
+      routes = (0 ∷ 6 ∷ []) ∷ (2 ∷ 8 ∷ []) ∷ [];
+      amounts = 2 ∷ 2 ∷ [];
+      litres = 4;
+      finished = false;
+      delivers = 4;
+      marks = 1 ∷ 1 ∷ 1 ∷ 1 ∷ [];
     }
-  ∷ record {
-      net = five; budget = 3;
-      routes = (0 ∷ 6 ∷ []) ∷ (2 ∷ 8 ∷ []) ∷ (0 ∷ 4 ∷ 8 ∷ []) ∷ []; amounts = 2 ∷ 2 ∷ 1 ∷ [];
-      litres = 5; finished = true; delivers = 5; marks = 1 ∷ 0 ∷ 0 ∷ 0 ∷ [];
+    ∷ record {
+      net = five;
+      budget = 3;
+      routes = (0 ∷ 6 ∷ []) ∷ (2 ∷ 8 ∷ []) ∷ (0 ∷ 4 ∷ 8 ∷ []) ∷ [];
+      amounts = 2 ∷ 2 ∷ 1 ∷ [];
+      litres = 5;
+      finished = true;
+      delivers = 5;
+      marks = 1 ∷ 0 ∷ 0 ∷ 0 ∷ [];
     }
-  ∷ record {
-      net = seven; budget = 10;
-      routes = (0 ∷ 2 ∷ 4 ∷ []) ∷ (10 ∷ 12 ∷ 3 ∷ 6 ∷ 8 ∷ []) ∷ []; amounts = 1 ∷ 1 ∷ [];
-      litres = 2; finished = true; delivers = 2; marks = 1 ∷ 0 ∷ 0 ∷ 0 ∷ 0 ∷ 0 ∷ [];
+    ∷ record {
+      net = seven;
+      budget = 10;
+      routes = (0 ∷ 2 ∷ 4 ∷ []) ∷ (10 ∷ 12 ∷ 3 ∷ 6 ∷ 8 ∷ []) ∷ [];
+      amounts = 1 ∷ 1 ∷ [];
+      litres = 2;
+      finished = true;
+      delivers = 2;
+      marks = 1 ∷ 0 ∷ 0 ∷ 0 ∷ 0 ∷ 0 ∷ [];
     }
-  ∷ record { net = bare; budget = 10; routes = []; amounts = []; litres = 0; finished = true; delivers = 0; marks = 1 ∷ 0 ∷ [] }
-  ∷ []
+    ∷ record { net = bare; budget = 10; routes = []; amounts = []; litres = 0; finished = true; delivers = 0; marks = 1 ∷ 0 ∷ [] }
+    ∷ []
 
 abbrev pub WorkedCases : Type 0
 WorkedCases = All Holds worked

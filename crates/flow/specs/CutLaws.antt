@@ -7,8 +7,11 @@ use Rattle.flow.specs.Routes.{Finished}
 use Rattle.flow.specs.Cuts.{Side, IsCut, crosses, cut_sum, IsBottleneck, IsBest, Agree}
 
 -- what the reaches that cross a cut carry; those that cross it back cross it with its sides exchanged
+abbrev pub amount_across : Side → Arc → ℕ
+amount_across near r = cond (crosses near r) r.carried 0
+
 abbrev pub carried_across : Side → List Arc → ℕ
-carried_across near rs = sum_of (λ r. cond (crosses near r) r.carried 0) rs
+carried_across near rs = sum_of (amount_across near) rs
 
 abbrev pub exchanged : Side → Side
 exchanged near v = not (near v)
@@ -17,7 +20,8 @@ pub record CutLaws : Type 0 where
   -- a flow delivers what crosses a cut minus what crosses it back, and so at most the cut's sum
   pub identity : (g : Net) (near : Side) → Shaped g → IsFlow g → IsCut g near →
       delivered g ≡ pos (carried_across near g.reaches) -ℤ pos (carried_across (exchanged near) g.reaches)
-  pub duality : (g : Net) (near : Side) → Shaped g → IsFlow g → IsCut g near → delivered g ≤ℤ pos (cut_sum near g.reaches)
+  pub duality : (g : Net) (near : Side) → Shaped g → IsFlow g → IsCut g near →
+      delivered g ≤ℤ pos (cut_sum near g.reaches)
   -- every network has a bottleneck; where a network carries a flow and no route exists, it is the best cut
   pub found : (g : Net) → Shaped g → (near : Side) × IsBottleneck g near
   pub best : (g : Net) (near : Side) → Shaped g → IsFlow g → Finished g → IsBottleneck g near → IsBest g near

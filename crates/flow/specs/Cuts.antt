@@ -18,8 +18,11 @@ abbrev pub crosses : Side → Arc → Bool
 crosses near r = near r.tail && not (near r.head)
 
 -- the sum of a cut: the limits of the reaches that cross it, added up (its capacity). How many they are
+abbrev pub limit_across : Side → Arc → ℕ
+limit_across near r = cond (crosses near r) r.limit 0
+
 abbrev pub cut_sum : Side → List Arc → ℕ
-cut_sum near rs = sum_of (λ r. cond (crosses near r) r.limit 0) rs
+cut_sum near rs = sum_of (limit_across near) rs
 
 abbrev pub crossing_count : Side → List Arc → ℕ
 crossing_count near rs = sum_of (λ r. cond (crosses near r) 1 0) rs

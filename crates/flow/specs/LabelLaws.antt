@@ -7,9 +7,9 @@ use Rattle.flow.specs.Pushes.{pushed}
 use Rattle.flow.specs.Labels.{Labels, IsAdmissible, IsFirstAdmissible, relabelled, ExactLabels}
 
 pub record LabelLaws : Type 0 where
-  -- no walk to the outfall has fewer steps than the label says; a label of n or more at the intake: there is no route
-  pub bound : (g : Net) (label : ℕ → ℕ) (v : ℕ) (ss : List ℕ) →
-      Labels g label → IsWalk g.reaches v ss g.outfall → label v ≤ length ss
+  -- along a walk labels fall by no more than it has steps; a label of n or more at the intake: there is no route
+  pub bound : (g : Net) (label : ℕ → ℕ) (from : ℕ) (ss : List ℕ) (to : ℕ) →
+      Labels g label → IsWalk g.reaches from ss to → label from ≤ label to + length ss
   pub high : (g : Net) (label : ℕ → ℕ) → Shaped g → Labels g label → g.junctions ≤ label g.intake → Finished g
   -- the route that takes the first admissible step of each junction is the first shortest
   pub first : (g : Net) (label : ℕ → ℕ) (ss : List ℕ) →
@@ -20,17 +20,17 @@ pub record LabelLaws : Type 0 where
   pub still : (g : Net) (label : ℕ → ℕ) (ss : List ℕ) →
       Labels g label → IsRoute g ss → All (IsAdmissible label g.reaches) ss →
       (s : ℕ) → ¬ IsAdmissible label g.reaches s → ¬ IsAdmissible label (pushed ss g).reaches s
-  -- so too where a junction's label is raised to at most 1 + the least label at the far ends of its open steps; the steps
-  -- that begin there may have become admissible, the others not
+  -- so too when a junction's label is raised to at most 1 + the least label at the far ends of its open steps; steps
+  -- that begin there may have become admissible, others not
   pub relabelling : (g : Net) (label : ℕ → ℕ) (v c : ℕ) → Shaped g → Labels g label → v ≢ g.outfall → label v ≤ c →
       ((s : ℕ) → IsOpen g.reaches s → begins g.reaches s ≡ v → c ≤ label (finishes g.reaches s) + 1) →
       Labels g (relabelled v c label)
-  pub elsewhere : (g : Net) (label : ℕ → ℕ) (v c : ℕ) → Labels g label → label v ≤ c →
-      (s : ℕ) → begins g.reaches s ≢ v → ¬ IsAdmissible label g.reaches s → ¬ IsAdmissible (relabelled v c label) g.reaches s
+  pub elsewhere : (g : Net) (label : ℕ → ℕ) (v c : ℕ) → Labels g label → label v ≤ c → (s : ℕ) → begins g.reaches s ≢ v →
+      ¬ IsAdmissible label g.reaches s → ¬ IsAdmissible (relabelled v c label) g.reaches s
   -- there are exact labels; those below n are lengths of walks to the outfall
   pub found : (g : Net) → Shaped g → (label : ℕ → ℕ) × ExactLabels g label
-  pub exact : (g : Net) (label : ℕ → ℕ) (v : ℕ) → Shaped g → ExactLabels g label → v < g.junctions → label v < g.junctions →
-      (ss : List ℕ) × IsWalk g.reaches v ss g.outfall × (length ss ≡ label v)
+  pub exact : (g : Net) (label : ℕ → ℕ) (v : ℕ) → Shaped g → ExactLabels g label →
+      v < g.junctions → label v < g.junctions → (ss : List ℕ) × IsWalk g.reaches v ss g.outfall × (length ss ≡ label v)
   -- and for each shortest route there are labels that fall along it
   pub tight : (g : Net) (ss : List ℕ) → IsShortest g ss →
       (label : ℕ → ℕ) × Labels g label × All (IsAdmissible label g.reaches) ss

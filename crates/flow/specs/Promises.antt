@@ -26,8 +26,9 @@ pub record Promise (start : Net) (events : List Event) (end : Net) : Type 0 wher
   -- two networks that stand finished and are alike but for what they carry deliver the same and have one bottleneck
   pub same : StandsFinished events →
       (begun : Net) (calls : List Event) → Commissioned begun → IsHistory calls begun → StandsFinished calls →
-      Alike end (after_calls calls begun) → (near other : Side) →
-      IsBottleneck end near → IsBottleneck (after_calls calls begun) other → Agree end (after_calls calls begun) near other
+      Alike end (after_calls calls begun) →
+      (near other : Side) → IsBottleneck end near → IsBottleneck (after_calls calls begun) other →
+      Agree end (after_calls calls begun) near other
   -- calls in a row with no accepted limit change and no draining among them count at most m × (n − 1) routes
   pub bounded : (before part behind : List Event) → events ≡ before ++ (part ++ behind) → All (λ e. ¬ Disturbs e) part →
       routes_counted part ≤ length end.reaches * (end.junctions - 1)

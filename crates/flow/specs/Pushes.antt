@@ -1,5 +1,5 @@
 -- Pushing routes, and the plain machine, which pushes first shortest routes until there is none or its budget is spent.
-use Rattle.std.specs.Prelude.{◌≡◌, ℕ, ◌+◌, ◌-◌, ◌≤◌, ◌⊎◌, min, cond, List, [], ◌∷◌, length, slice_set, ⊤}
+use Rattle.std.specs.Prelude.{◌≡◌, ℕ, ◌+◌, ◌-◌, ◌≤◌, ◌⊎◌, min, Bool, cond, List, [], ◌∷◌, length, slice_set, ⊤}
 use Rattle.flow.specs.Net.{Arc, Net}
 use Rattle.flow.specs.Steps.{along_reach, goes_back, arc_of, headroom}
 use Rattle.flow.specs.Changes.{carrying, with_reaches}
@@ -11,13 +11,13 @@ least_headroom rs [] = 0
 least_headroom rs (s ∷ []) = headroom rs s
 least_headroom rs (s ∷ (t ∷ ts)) = min (headroom rs s) (least_headroom rs (t ∷ ts))
 
--- what the reach of a step carries after d litres more along the step: d more where it goes forth, d less where back
-abbrev pub amount_after : ℕ → List Arc → ℕ → ℕ
-amount_after d rs s = cond (goes_back s) ((arc_of rs s).carried - d) ((arc_of rs s).carried + d)
+-- what a reach carries when d litres more go along it: d less where they go back, d more where they go forth
+abbrev pub amount_after : ℕ → Bool → Arc → ℕ
+amount_after d back r = cond back (r.carried - d) (r.carried + d)
 
 -- the reaches when d litres more go along one step, and along each step of a list
 abbrev pub shifted : ℕ → List Arc → ℕ → List Arc
-shifted d rs s = slice_set rs (along_reach s) (carrying (amount_after d rs s) (arc_of rs s))
+shifted d rs s = slice_set rs (along_reach s) (carrying (amount_after d (goes_back s) (arc_of rs s)) (arc_of rs s))
 
 abbrev pub shifted_along : ℕ → List Arc → List ℕ → List Arc
 shifted_along d rs [] = rs

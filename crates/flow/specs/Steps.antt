@@ -12,16 +12,26 @@ goes_back s = s % 2 == 1
 abbrev pub arc_of : List Arc → ℕ → Arc
 arc_of rs s = arc_at rs (along_reach s)
 
--- where a step begins and where it ends
+-- of a step along a reach, back or forth: where it begins, where it finishes, and how much more it can take (residual
+-- capacity): forth what is left of the limit, back what is carried
+abbrev pub begins_at : Bool → Arc → ℕ
+begins_at back r = cond back r.head r.tail
+
+abbrev pub finishes_at : Bool → Arc → ℕ
+finishes_at back r = cond back r.tail r.head
+
+abbrev pub headroom_at : Bool → Arc → ℕ
+headroom_at back r = cond back r.carried (r.limit - r.carried)
+
+-- and of a step of a list of reaches
 abbrev pub begins : List Arc → ℕ → ℕ
-begins rs s = cond (goes_back s) (arc_of rs s).head (arc_of rs s).tail
+begins rs s = begins_at (goes_back s) (arc_of rs s)
 
 abbrev pub finishes : List Arc → ℕ → ℕ
-finishes rs s = cond (goes_back s) (arc_of rs s).tail (arc_of rs s).head
+finishes rs s = finishes_at (goes_back s) (arc_of rs s)
 
--- how much more a step can take (residual capacity): forward what is left of the limit, back what is carried
 abbrev pub headroom : List Arc → ℕ → ℕ
-headroom rs s = cond (goes_back s) (arc_of rs s).carried ((arc_of rs s).limit - (arc_of rs s).carried)
+headroom rs s = headroom_at (goes_back s) (arc_of rs s)
 
 -- a step is open when it has headroom
 abbrev pub IsOpen : List Arc → ℕ → Type 0
