@@ -17,10 +17,10 @@ use Rattle.flow.proofs.Likeness.{Shaped-alike}
 use Rattle.flow.proofs.Cutting.{cut_balance, carried_across-le}
 use Rattle.flow.proofs.Besting.{best_cut, agreed}
 use Rattle.flow.proofs.Pushing.{Off, Apart, raised, least_above_0, Sound-pushed}
-use Rattle.flow.proofs.Labelling.{fall_from_admissible, admissible_from_fall, labels_bound, apart_from_fall, labels_pushed, still_pushed, labels_relabelled, still_elsewhere}
+use Rattle.flow.proofs.Labelling.{descent_from_admissible, admissible_from_descent, labels_bound, labels_pushed, still_pushed, labels_relabelled, still_elsewhere}
 use Rattle.flow.proofs.Firsts.{first_unique, first_from_labels}
 use Rattle.flow.proofs.Distances.{bottleneck_found, high_finished, shortest_length, shortest_labels, exact_found, exact_walk, first_found}
-use Rattle.flow.proofs.Running.{falls_along, runs_bounded}
+use Rattle.flow.proofs.Running.{descent_along, runs_bounded}
 use Rattle.flow.proofs.Machining.{shortest_apart, raised_all, settles_unique, settles_found, enough}
 use Rattle.flow.proofs.Promising.{drained_flow, limited_flow}
 
@@ -69,13 +69,15 @@ label_laws = record {
   bound = λ g label from ss to h w. labels_bound g label h from ss to w;
   high = high_finished;
   first = first_from_labels;
-  pushing = λ g label ss h r all. labels_pushed g label ss (fall_from_admissible label g.reaches ss all) h;
-  still = λ g label ss h r all. still_pushed g label ss r (fall_from_admissible label g.reaches ss all);
+  pushing = λ g label ss h r all.
+      labels_pushed g label ss (descent_from_admissible label g.reaches g.intake ss g.outfall r all).falls h;
+  still = λ g label ss h r all.
+      still_pushed g label ss (descent_from_admissible label g.reaches g.intake ss g.outfall r all);
   relabelling = labels_relabelled;
   elsewhere = still_elsewhere;
   found = exact_found;
   exact = λ g label v shaped is low less. let x = exact_walk g label shaped is (label v) v low less refl in (x.0, x.1, x.3);
   tight = λ g ss is.
       let x = shortest_labels g ss is in
-      (x.0, x.1, admissible_from_fall x.0 g.reaches g.intake ss g.outfall is.route (falls_along g x.0 x.1 ss is.route x.2));
+      (x.0, x.1, admissible_from_descent x.0 g.reaches g.intake ss g.outfall (descent_along g x.0 x.1 ss is.route x.2));
 }

@@ -12,13 +12,13 @@ use Rattle.flow.proofs.Pushing.{Apart, Alike-pushed, raised}
 use Rattle.flow.proofs.Labelling.{apart_from_fall}
 use Rattle.flow.proofs.Firsts.{first_unique}
 use Rattle.flow.proofs.Distances.{shortest_labels, first_found}
-use Rattle.flow.proofs.Running.{falls_along, runs_bounded}
+use Rattle.flow.proofs.Running.{descent_along, runs_bounded}
 
 -- a shortest route goes along no reach twice
 pub shortest_apart : (g : Net) (ss : List ℕ) → IsShortest g ss → Apart ss
 shortest_apart g ss is =
     let x = shortest_labels g ss is in
-    apart_from_fall x.0 g.reaches g.intake ss g.outfall is.route (falls_along g x.0 x.1 ss is.route x.2)
+    apart_from_fall x.0 g.reaches g.intake ss g.outfall is.route (descent_along g x.0 x.1 ss is.route x.2).falls
 
 pub Alike-pushed_all : (routes : List (List ℕ)) (g : Net) → Alike g (pushed_all routes g)
 Alike-pushed_all [] g = refl
