@@ -19,7 +19,8 @@ use Rattle.flow.proofs.Besting.{best_cut, agreed}
 use Rattle.flow.proofs.Pushing.{Off, Apart, raised, least_above_0, Sound-pushed}
 use Rattle.flow.proofs.Labelling.{descent_from_admissible, admissible_from_descent, labels_bound, labels_pushed, still_pushed, labels_relabelled, still_elsewhere}
 use Rattle.flow.proofs.Firsts.{first_unique, first_from_labels}
-use Rattle.flow.proofs.Distances.{bottleneck_found, high_finished, shortest_length, shortest_labels, exact_found, exact_walk, first_found}
+use Rattle.flow.proofs.Distances.{shortest_length, shortest_labels}
+use Rattle.flow.proofs.Finding.{bottleneck_found, high_finished, exact_found, exact_walk, first_found}
 use Rattle.flow.proofs.Running.{descent_along, runs_bounded}
 use Rattle.flow.proofs.Machining.{shortest_apart, raised_all, settles_unique, settles_found, enough}
 use Rattle.flow.proofs.Promising.{drained_flow, limited_flow}
@@ -76,7 +77,8 @@ label_laws = record {
   relabelling = labels_relabelled;
   elsewhere = still_elsewhere;
   found = exact_found;
-  exact = λ g label v shaped is low less. let x = exact_walk g label shaped is (label v) v low less refl in (x.0, x.1, x.3);
+  exact = λ g label v shaped is low less. 
+      let x = exact_walk g label v shaped is low less in (x.steps, x.walk, x.long);
   tight = λ g ss is.
       let x = shortest_labels g ss is in
       (x.0, x.1, admissible_from_descent x.0 g.reaches g.intake ss g.outfall (descent_along g x.0 x.1 ss is.route x.2));

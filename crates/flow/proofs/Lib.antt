@@ -9,6 +9,7 @@ pub mod Order
 pub mod Labelling
 pub mod Firsts
 pub mod Distances
+pub mod Finding
 pub mod Spending
 pub mod Running
 pub mod Machining

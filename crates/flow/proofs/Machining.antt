@@ -11,7 +11,8 @@ use Rattle.flow.proofs.Likeness.{Shaped-alike}
 use Rattle.flow.proofs.Pushing.{Apart, Alike-pushed, raised}
 use Rattle.flow.proofs.Labelling.{apart_from_fall}
 use Rattle.flow.proofs.Firsts.{first_unique}
-use Rattle.flow.proofs.Distances.{shortest_labels, first_found}
+use Rattle.flow.proofs.Distances.{shortest_labels}
+use Rattle.flow.proofs.Finding.{first_found}
 use Rattle.flow.proofs.Running.{descent_along, runs_bounded}
 
 -- a shortest route goes along no reach twice

@@ -20,7 +20,7 @@ use Rattle.flow.proofs.Sums.{sum_of-none, sum_of-zero, sum_of-set_same}
 use Rattle.flow.proofs.Changing.{keeps_sound}
 use Rattle.flow.proofs.Likeness.{bare-alike, length-alike, junctions-alike, Shaped-alike}
 use Rattle.flow.proofs.Besting.{best_cut, agreed}
-use Rattle.flow.proofs.Distances.{bottleneck_found}
+use Rattle.flow.proofs.Finding.{bottleneck_found}
 use Rattle.flow.proofs.Running.{runs_bounded}
 use Rattle.flow.proofs.Machining.{EachPushed-append, EachPushed-at, shortest_from_first, pushed_all-append, raised_all, settles_unique}
 
