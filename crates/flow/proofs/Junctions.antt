@@ -35,7 +35,7 @@ sum_below-zero f n each = omega (arith, sum_below-same f (λ v. 0) n each, sum_b
 -- two sums that agree but at s
 pub sum_below-differ : (f h : ℕ → ℕ) (s n : ℕ) → s < n → ((v : ℕ) → v < n → v ≢ s → f v ≡ h v) →
     sum_below f n + h s ≡ sum_below h n + f s
-sum_below-differ f h s zero low each = absurd (let z : ⊥ = omega arith in z)
+sum_below-differ f h s zero low each = absurd (omega arith)
 sum_below-differ f h s (suc n) low each = ⊎_elim
     (λ (here : n ≡ s).
     let rest = sum_below-same f h n (λ v less. each v (omega arith) (omega arith)) in omega (arith, rest, ap f here, ap h here))
@@ -52,7 +52,7 @@ sum_below-one f s n low none = omega (arith, sum_below-differ f (λ v. 0) s n lo
 
 -- each number adds no more than all do
 pub sum_below-has : (f : ℕ → ℕ) (v n : ℕ) → v < n → f v ≤ sum_below f n
-sum_below-has f v zero low = absurd (let z : ⊥ = omega arith in z)
+sum_below-has f v zero low = absurd (omega arith)
 sum_below-has f v (suc n) low = ⊎_elim
     (λ (here : v ≡ n). let same : f v ≡ f n = ap f here in omega arith)
     (λ (ne : v ≢ n). further ne (λ below. sum_below-has f v n below)) (cases_eq v n)

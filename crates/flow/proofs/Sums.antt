@@ -49,7 +49,7 @@ sum_of-zero f (r ∷ rs) each =
 -- a sum to which reach e alone adds something
 pub sum_of-one : (f : Arc → ℕ) (rs : List Arc) (e : ℕ) → e < length rs →
     ((i : ℕ) → i < length rs → i ≢ e → f (arc_at rs i) ≡ 0) → sum_of f rs ≡ f (arc_at rs e)
-sum_of-one f [] e low none = absurd (let z : ⊥ = omega arith in z)
+sum_of-one f [] e low none = absurd (omega arith)
 sum_of-one f (r ∷ rs) zero low none =
     let rest = sum_of-zero f rs (All-from_get_or (λ x. f x ≡ 0) rs no_arc (λ i less. none (suc i) (omega arith) (omega arith))) in
     omega (arith, rest)
@@ -60,7 +60,7 @@ sum_of-one f (r ∷ rs) (suc e) low none =
 -- a sum when reach k of the list has become another
 pub sum_of-set : (f : Arc → ℕ) (rs : List Arc) (k : ℕ) (r : Arc) → k < length rs →
     sum_of f (set rs k r) + f (arc_at rs k) ≡ sum_of f rs + f r
-sum_of-set f [] k r low = absurd (let z : ⊥ = omega arith in z)
+sum_of-set f [] k r low = absurd (omega arith)
 sum_of-set f (q ∷ rs) zero r low = omega arith
 sum_of-set f (q ∷ rs) (suc k) r low = omega (arith, sum_of-set f rs k r (omega arith))
 
