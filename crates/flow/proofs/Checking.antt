@@ -23,13 +23,13 @@ use Rattle.flow.proofs.Order.{goes_first, goes_first-decides}
 use Rattle.flow.proofs.Firsts.{first_from_labels}
 
 -- a test that two Bools are the same
-abbrev bool_eq : Bool → Bool → Bool
-bool_eq true b = b
-bool_eq false b = not b
+abbrev same_bool : Bool → Bool → Bool
+same_bool true b = b
+same_bool false b = not b
 
-bool_eq-true : (a b : Bool) → bool_eq a b ≡ true → a ≡ b
-bool_eq-true true b pass = sym pass
-bool_eq-true false b pass = sym (not-true b pass)
+same_bool-true : (a b : Bool) → same_bool a b ≡ true → a ≡ b
+same_bool-true true b pass = sym pass
+same_bool-true false b pass = sym (not-true b pass)
 
 -- a test that every number below n passes another
 abbrev all_below : (ℕ → Bool) → ℕ → Bool
@@ -48,62 +48,82 @@ abbrev each_open : List Arc → (ℕ → Bool) → Bool
 each_open rs p = all_below (λ s. not (nat_lt 0 (headroom rs s)) || p s) (2 * length rs)
 
 each_open_at : (rs : List Arc) (p : ℕ → Bool) → each_open rs p ≡ true → (s : ℕ) → IsOpen rs s → p s ≡ true
-each_open_at rs p all s opens = unless (nat_lt 0 (headroom rs s)) (p s)
-    (all_below_at (λ t. not (nat_lt 0 (headroom rs t)) || p t) (2 * length rs) all s (omega (arith, open_in rs s opens)))
-    (lt-ltb 0 (headroom rs s) opens)
+each_open_at rs p all s opens =
+    let low = open_in rs s opens in
+    let here = all_below_at (λ t. not (nat_lt 0 (headroom rs t)) || p t) (2 * length rs) all s (omega arith) in
+    unless (nat_lt 0 (headroom rs s)) (p s) here (lt-ltb 0 (headroom rs s) opens)
 
 -- a test that numbers are labels
-abbrev are_labels : Net → (ℕ → ℕ) → Bool
-are_labels g label =
-    (label g.outfall == 0) && each_open g.reaches (λ s. nat_le (label (begins g.reaches s)) (label (finishes g.reaches s) + 1))
+module _ (g : Net) (label : ℕ → ℕ) where
+  abbrev falls_within : ℕ → Bool
+  falls_within s = nat_le (label (begins g.reaches s)) (label (finishes g.reaches s) + 1)
 
-labels_from : (g : Net) (label : ℕ → ℕ) → are_labels g label ≡ true → Labels g label
-labels_from g label pass =
-    let x = and_parts (label g.outfall == 0) _ pass in
-    record {
-      outfall = eqb-true (label g.outfall) 0 x.0;
-      falls = λ s opens. leb-true _ _ (each_open_at g.reaches (λ t. nat_le (label (begins g.reaches t)) (label (finishes g.reaches t) + 1)) x.1 s opens);
-    }
+  abbrev are_labels : Bool
+  are_labels = (label g.outfall == 0) && each_open g.reaches falls_within
+
+  labels_from : are_labels ≡ true → Labels g label
+  labels_from pass =
+      let x = and_parts (label g.outfall == 0) (each_open g.reaches falls_within) pass in
+      record {
+        outfall = eqb-true (label g.outfall) 0 x.0;
+        falls = λ s opens. leb-true _ _ (each_open_at g.reaches falls_within x.1 s opens);
+      }
+
+-- a test that a step is admissible and begins at v, and a test that no such step from there goes before it
+module _ (rs : List Arc) (label : ℕ → ℕ) (v s : ℕ) where
+  abbrev is_admissible : Bool
+  is_admissible = (begins rs s == v) && (nat_lt 0 (headroom rs s) && (label (begins rs s) == label (finishes rs s) + 1))
+
+  admissible_from : is_admissible ≡ true → (begins rs s ≡ v) × IsAdmissible label rs s
+  admissible_from pass =
+      let x = and_parts (begins rs s == v) _ pass in
+      let y = and_parts (nat_lt 0 (headroom rs s)) _ x.1 in
+      (eqb-true _ _ x.0, record { opens = ltb-true _ _ y.0; falls = eqb-true _ _ y.1 })
+
+  abbrev is_no_earlier : ℕ → Bool
+  is_no_earlier t =
+      not ((begins rs t == begins rs s) && ((label (begins rs t) == label (finishes rs t) + 1) && goes_first t s))
+
+  first_from_test : each_open rs is_no_earlier ≡ true → (t : ℕ) → begins rs t ≡ begins rs s → IsAdmissible label rs t →
+      ¬ GoesFirst t s
+  first_from_test pass t same a before =
+      let test : is_no_earlier t ≡ true = each_open_at rs is_no_earlier pass t a.opens in
+      let order : goes_first t s ≡ true = (goes_first-decides t s).1 before in
+      let falls : label (begins rs t) ≡ label (finishes rs t) + 1 = a.falls in
+      grind (arith, nat_tests)
 
 -- a test that a list of steps is a walk of admissible steps, each the first of its junction
 abbrev leads : List Arc → (ℕ → ℕ) → ℕ → List ℕ → ℕ → Bool
 leads rs label from [] to = from == to
 leads rs label from (s ∷ ss) to =
-    ((begins rs s == from) && (nat_lt 0 (headroom rs s) && (label (begins rs s) == label (finishes rs s) + 1)))
-    && (each_open rs (λ t. not ((begins rs t == begins rs s) && ((label (begins rs t) == label (finishes rs t) + 1) && goes_first t s)))
-    && leads rs label (finishes rs s) ss to)
+    is_admissible rs label from s && (each_open rs (is_no_earlier rs label from s) && leads rs label (finishes rs s) ss to)
 
 leads_from : (rs : List Arc) (label : ℕ → ℕ) (from : ℕ) (ss : List ℕ) (to : ℕ) → leads rs label from ss to ≡ true →
     IsWalk rs from ss to × AllByRecursion (IsFirstAdmissible label rs) ss
 leads_from rs label from [] to pass = (eqb-true from to pass, tt)
 leads_from rs label from (s ∷ ss) to pass =
-    let earlier : ℕ → Bool = λ t. not ((begins rs t == begins rs s) && ((label (begins rs t) == label (finishes rs t) + 1) && goes_first t s)) in
-    let x = and_parts ((begins rs s == from) && (nat_lt 0 (headroom rs s) && (label (begins rs s) == label (finishes rs s) + 1))) _ pass in
-    let y = and_parts (begins rs s == from) _ x.0 in
-    let z = and_parts (nat_lt 0 (headroom rs s)) _ y.1 in
-    let w = and_parts (each_open rs earlier) _ x.1 in
-    let rest = leads_from rs label (finishes rs s) ss to w.1 in
-    let first : (t : ℕ) → begins rs t ≡ begins rs s → IsAdmissible label rs t → ¬ GoesFirst t s =
-    λ t same a before.
-    let e : earlier t ≡ true = each_open_at rs earlier w.0 t a.opens in
-    let b : goes_first t s ≡ true = (goes_first-decides t s).1 before in
-    let f : label (begins rs t) ≡ label (finishes rs t) + 1 = a.falls in
-    grind (arith, nat_tests) in (
-      (eqb-true _ _ y.0, ltb-true _ _ z.0, rest.0),
-      (record { admissible = record { opens = ltb-true _ _ z.0; falls = eqb-true _ _ z.1 }; first = first }, rest.1),
-    )
+    let x = and_parts (is_admissible rs label from s) _ pass in
+    let y = and_parts (each_open rs (is_no_earlier rs label from s)) _ x.1 in
+    let (start , here) = admissible_from rs label from s x.0 in
+    let (walk , rest) = leads_from rs label (finishes rs s) ss to y.1 in
+    let first : IsFirstAdmissible label rs s =
+    record { admissible = here; first = first_from_test rs label from s y.0 } in
+    ((start, here.opens, walk), (first, rest))
 
 -- a test that a list of steps is the first shortest route, with labels to show it
-abbrev is_first : Net → List ℕ → List ℕ → Bool
-is_first g labels ss =
-    are_labels g (λ v. get_or labels v 0) && leads g.reaches (λ v. get_or labels v 0) g.intake ss g.outfall
+module _ (g : Net) (labels ss : List ℕ) where
+  abbrev label_in : ℕ → ℕ
+  label_in v = get_or labels v 0
 
-first_from : (g : Net) (labels ss : List ℕ) → is_first g labels ss ≡ true → IsFirst g ss
-first_from g labels ss pass =
-    let label : ℕ → ℕ = λ v. get_or labels v 0 in
-    let x = and_parts (are_labels g label) _ pass in
-    let y = leads_from g.reaches label g.intake ss g.outfall x.1 in
-    first_from_labels g label ss (labels_from g label x.0) y.0 (All-from_recursion (IsFirstAdmissible label g.reaches) ss y.1)
+  abbrev is_first : Bool
+  is_first = are_labels g label_in && leads g.reaches label_in g.intake ss g.outfall
+
+  first_from : is_first ≡ true → IsFirst g ss
+  first_from pass =
+      let x = and_parts (are_labels g label_in) _ pass in
+      let (walk , firsts) = leads_from g.reaches label_in g.intake ss g.outfall x.1 in
+      let all = All-from_recursion (IsFirstAdmissible label_in g.reaches) ss firsts in
+      first_from_labels g label_in ss (labels_from g label_in x.0) walk all
 
 -- a test that each of the routes is so when it is pushed, with the labels of each
 abbrev are_firsts : Net → List (List ℕ) → List (List ℕ) → Bool
@@ -111,7 +131,8 @@ are_firsts g labels [] = true
 are_firsts g [] (ss ∷ more) = false
 are_firsts g (ls ∷ labels) (ss ∷ more) = is_first g ls ss && are_firsts (pushed ss g) labels more
 
-firsts_from : (g : Net) (labels routes : List (List ℕ)) → are_firsts g labels routes ≡ true → EachPushed IsFirst g routes
+firsts_from : (g : Net) (labels routes : List (List ℕ)) → are_firsts g labels routes ≡ true →
+    EachPushed IsFirst g routes
 firsts_from g labels [] pass = tt
 firsts_from g [] (ss ∷ more) pass = absurd (true≢false (sym pass))
 firsts_from g (ls ∷ labels) (ss ∷ more) pass =
@@ -131,47 +152,51 @@ walk_from rs from (s ∷ ss) to pass =
 
 -- a test that marks are those of the bottleneck: a walk shows that a junction is reached, and no open step leaves the
 -- marked junctions
-abbrev are_marks : Net → List (List ℕ) → List ℕ → Bool
-are_marks g walks marks =
-    marked marks g.intake
-    && (all_below (λ v. not (marked marks v) || is_walk g.reaches g.intake (get_or walks v []) v) g.junctions
-    && each_open g.reaches (λ s. not (marked marks (begins g.reaches s)) || marked marks (finishes g.reaches s)))
+module _ (g : Net) (walks : List (List ℕ)) (marks : List ℕ) where
+  abbrev is_shown : ℕ → Bool
+  is_shown v = not (marked marks v) || is_walk g.reaches g.intake (get_or walks v []) v
 
-bottleneck_from : (g : Net) (walks : List (List ℕ)) (marks : List ℕ) → are_marks g walks marks ≡ true → IsBottleneck g (marked marks)
-bottleneck_from g walks marks pass v low = (reached, near)
-  where
-    x : (marked marks g.intake ≡ true) × ((all_below (λ v. not (marked marks v) || is_walk g.reaches g.intake (get_or walks v []) v) g.junctions
-        && each_open g.reaches (λ s. not (marked marks (begins g.reaches s)) || marked marks (finishes g.reaches s))) ≡ true)
-    x = and_parts (marked marks g.intake) _ pass
+  abbrev stays_near : ℕ → Bool
+  stays_near s = not (marked marks (begins g.reaches s)) || marked marks (finishes g.reaches s)
 
-    y : (all_below (λ v. not (marked marks v) || is_walk g.reaches g.intake (get_or walks v []) v) g.junctions ≡ true)
-        × (each_open g.reaches (λ s. not (marked marks (begins g.reaches s)) || marked marks (finishes g.reaches s)) ≡ true)
-    y = and_parts (all_below (λ v. not (marked marks v) || is_walk g.reaches g.intake (get_or walks v []) v) g.junctions) _ x.1
+  abbrev are_marks : Bool
+  are_marks = marked marks g.intake && (all_below is_shown g.junctions && each_open g.reaches stays_near)
 
-    reached : marked marks v ≡ true → Reached g v
-    reached is = (
-      get_or walks v [],
-      walk_from g.reaches g.intake (get_or walks v []) v
-          (unless (marked marks v) _ (all_below_at (λ u. not (marked marks u) || is_walk g.reaches g.intake (get_or walks u []) u) g.junctions y.0 v low) is),
-    )
+  bottleneck_from : are_marks ≡ true → IsBottleneck g (marked marks)
+  bottleneck_from pass v low = (reached, near)
+    where
+      start : (marked marks g.intake ≡ true) × ((all_below is_shown g.junctions && each_open g.reaches stays_near) ≡ true)
+      start = and_parts (marked marks g.intake) _ pass
 
-    closed : Closed (marked marks) g.reaches
-    closed s opens from = unless (marked marks (begins g.reaches s)) _
-        (each_open_at g.reaches (λ t. not (marked marks (begins g.reaches t)) || marked marks (finishes g.reaches t)) y.1 s opens) from
+      tests : (all_below is_shown g.junctions ≡ true) × (each_open g.reaches stays_near ≡ true)
+      tests = and_parts (all_below is_shown g.junctions) _ start.1
 
-    near : Reached g v → marked marks v ≡ true
-    near r = near_along (marked marks) g.reaches closed g.intake r.0 v r.1 x.0
+      reached : marked marks v ≡ true → Reached g v
+      reached is =
+          let shown = unless (marked marks v) _ (all_below_at is_shown g.junctions tests.0 v low) is in
+          (get_or walks v [], walk_from g.reaches g.intake (get_or walks v []) v shown)
 
--- no route exists exactly where the outfall is not reached
+      closed : Closed (marked marks) g.reaches
+      closed s opens from =
+          unless (marked marks (begins g.reaches s)) _ (each_open_at g.reaches stays_near tests.1 s opens) from
+
+      near : Reached g v → marked marks v ≡ true
+      near r = near_along (marked marks) g.reaches closed g.intake r.0 v r.1 start.0
+
+-- no route exists exactly where the outfall is not marked
 finished_from : (g : Net) (marks : List ℕ) → g.outfall < g.junctions → IsBottleneck g (marked marks) →
     IsTrue (not (marked marks g.outfall)) ↔ Finished g
-finished_from g marks low is = (
-  λ far ss r. both_ways (marked marks g.outfall) (not-true (marked marks g.outfall) far) ((is g.outfall low).1 (ss, r)),
-  λ finished. ⊎_elim (λ (near : marked marks g.outfall ≡ true). let w = (is g.outfall low).0 near in absurd (finished w.0 w.1))
-      (λ (far : marked marks g.outfall ≡ false). rw far refl) (cases_Bool (marked marks g.outfall)),
-)
+finished_from g marks low is = (none, far)
+  where
+    none : not (marked marks g.outfall) ≡ true → Finished g
+    none not_near ss r = both_ways (marked marks g.outfall) (not-true _ not_near) ((is g.outfall low).1 (ss, r))
 
--- what shows a case: labels for each route, and walks to the reached junctions
+    far : Finished g → not (marked marks g.outfall) ≡ true
+    far finished = ⊎_elim
+        (λ (near : marked marks g.outfall ≡ true). let w = (is g.outfall low).0 near in absurd (finished w.0 w.1))
+        (λ (not_near : marked marks g.outfall ≡ false). rw not_near refl) (cases_Bool (marked marks g.outfall))
+
+-- what shows a case: labels for each route, and walks to the junctions that are reached
 record Shown : Type 0 where
   labels : List (List ℕ)
   walks : List (List ℕ)
@@ -181,40 +206,47 @@ module _ (c : Case) (shown : Shown) where
   abbrev left : Net
   left = pushed_all c.routes c.net
 
+  abbrev is_spent : Bool
+  is_spent = nat_le (length c.routes) c.budget && (c.finished || (length c.routes == c.budget))
+
+  abbrev adds_up : Bool
+  adds_up = bytes_eq (amounts_of c.net c.routes) c.amounts && (litres_of c.net c.routes == c.litres)
+
+  abbrev is_delivered : Bool
+  is_delivered = leaving left.intake left.reaches == entering left.intake left.reaches + c.delivers
+
+  abbrev is_told : Bool
+  is_told = nat_lt left.outfall left.junctions && same_bool c.finished (not (marked c.marks left.outfall))
+
   abbrev holds : Bool
-  holds =
-      are_firsts c.net shown.labels c.routes
-      && ((nat_le (length c.routes) c.budget && (c.finished || (length c.routes == c.budget)))
-      && ((bytes_eq (amounts_of c.net c.routes) c.amounts && (litres_of c.net c.routes == c.litres))
-      && ((leaving left.intake left.reaches == entering left.intake left.reaches + c.delivers)
-      && ((nat_lt left.outfall left.junctions && (bool_eq c.finished (not (marked c.marks left.outfall))))
-      && are_marks left shown.walks c.marks))))
+  holds = are_firsts c.net shown.labels c.routes
+      && (is_spent && (adds_up && (is_delivered && (is_told && are_marks left shown.walks c.marks))))
 
   from_test : holds ≡ true → Holds c
   from_test pass =
-      let a = and_parts (are_firsts c.net shown.labels c.routes) _ pass in
-      let b = and_parts (nat_le (length c.routes) c.budget && (c.finished || (length c.routes == c.budget))) _ a.1 in
-      let spent = and_parts (nat_le (length c.routes) c.budget) _ b.0 in
-      let d = and_parts (bytes_eq (amounts_of c.net c.routes) c.amounts && (litres_of c.net c.routes == c.litres)) _ b.1 in
-      let adds = and_parts (bytes_eq (amounts_of c.net c.routes) c.amounts) _ d.0 in
-      let e = and_parts (leaving left.intake left.reaches == entering left.intake left.reaches + c.delivers) _ d.1 in
-      let f = and_parts (nat_lt left.outfall left.junctions && (bool_eq c.finished (not (marked c.marks left.outfall)))) _ e.1 in
-      let told = and_parts (nat_lt left.outfall left.junctions) _ f.0 in
-      let near : IsBottleneck left (marked c.marks) = bottleneck_from left shown.walks c.marks f.1 in
-      let flag : c.finished ≡ not (marked c.marks left.outfall) = bool_eq-true c.finished _ told.1 in
+      let firsts = and_parts (are_firsts c.net shown.labels c.routes) _ pass in
+      let spending = and_parts is_spent _ firsts.1 in
+      let adding = and_parts adds_up _ spending.1 in
+      let delivering = and_parts is_delivered _ adding.1 in
+      let telling = and_parts is_told _ delivering.1 in
+      let spent = and_parts (nat_le (length c.routes) c.budget) _ spending.0 in
+      let added = and_parts (bytes_eq (amounts_of c.net c.routes) c.amounts) _ adding.0 in
+      let told = and_parts (nat_lt left.outfall left.junctions) _ telling.0 in
+      let near = bottleneck_from left shown.walks c.marks telling.1 in
+      let flag : c.finished ≡ not (marked c.marks left.outfall) = same_bool-true c.finished _ told.1 in
       let none = finished_from left c.marks (ltb-true _ _ told.0) near in
-      let tells : IsTrue c.finished ↔ Finished left = (λ told'. none.0 (sym flag ∙ told'), λ fin. flag ∙ none.1 fin) in
+      let tells : IsTrue c.finished ↔ Finished left = (λ e. none.0 (sym flag ∙ e), λ fin. flag ∙ none.1 fin) in
       record {
         settles = record {
-          firsts = firsts_from c.net shown.labels c.routes a.0;
+          firsts = firsts_from c.net shown.labels c.routes firsts.0;
           spent = leb-true _ _ spent.0;
-          stops = ⊎_elim (λ (told' : c.finished ≡ true). inl (tells.0 told')) (λ (all : (length c.routes == c.budget) ≡ true). inr (eqb-true _ _ all))
-              (or_cases c.finished _ spent.1);
+          stops = ⊎_elim (λ (e : c.finished ≡ true). inl (tells.0 e))
+              (λ (all : (length c.routes == c.budget) ≡ true). inr (eqb-true _ _ all)) (or_cases c.finished _ spent.1);
         };
-        amounts = (bytes_decides (amounts_of c.net c.routes) c.amounts).0 adds.0;
-        litres = eqb-true _ _ adds.1;
+        amounts = (bytes_decides (amounts_of c.net c.routes) c.amounts).0 added.0;
+        litres = eqb-true _ _ added.1;
         finished = tells;
-        delivers = let whole = eqb-true (leaving left.intake left.reaches) (entering left.intake left.reaches + c.delivers) e.0 in omega (arith, ints);
+        delivers = let whole = eqb-true (leaving left.intake left.reaches) _ delivering.0 in omega (arith, ints);
         near = near;
       }
 

@@ -23,7 +23,7 @@ use Rattle.flow.proofs.Distances.{shortest_length, shortest_labels}
 use Rattle.flow.proofs.Finding.{bottleneck_found, high_finished, exact_found, exact_walk, first_found}
 use Rattle.flow.proofs.Running.{descent_along, runs_bounded}
 use Rattle.flow.proofs.Machining.{shortest_apart, raised_all, settles_unique, settles_found, enough}
-use Rattle.flow.proofs.Promising.{drained_flow, limited_flow}
+use Rattle.flow.proofs.Lasting.{drained_flow, limited_flow}
 
 no_reach_twice : (ss : List ℕ) → Apart ss → NoReachTwice ss
 no_reach_twice [] apart i j d before low = absurd (let z : ⊥ = omega arith in z)

@@ -13,6 +13,7 @@ pub mod Finding
 pub mod Spending
 pub mod Running
 pub mod Machining
+pub mod Lasting
 pub mod Promising
 pub mod Lawful
 pub mod Checking
