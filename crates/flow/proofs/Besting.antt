@@ -1,7 +1,7 @@
 -- The bottleneck of a network in which no route exists is the best cut.
-use Rattle.std.proofs.Common.{◌≡◌, ℕ, ◌+◌, ◌-◌, ◌*◌, ◌<◌, ◌≤◌, Bool, true, false, List, [], ◌∷◌, ◌++◌, length, ℤ, pos, refl, sym, ap, ◌∙◌, subst, ⊎_elim, arith}
+use Rattle.std.proofs.Common.{◌≡◌, ℕ, ◌+◌, ◌-◌, ◌*◌, ◌<◌, ◌≤◌, Bool, true, false, List, [], ◌∷◌, ◌++◌, pos, refl, sym, ap, ◌∙◌, subst, ⊎_elim, arith}
 use Rattle.std.specs.List.{All}
-use Rattle.std.specs.Prelude.{◌≤ℤ◌, IsTrue, IsFalse}
+use Rattle.std.specs.Prelude.{◌≤ℤ◌, IsTrue}
 use Rattle.std.proofs.lemmas.List.Elements.{All-weaker, All-get_or, All-from_get_or}
 use Rattle.std.proofs.lemmas.Bool.{cases_Bool}
 use Rattle.std.proofs.lemmas.Bool.Decides.{same_from_decides}
@@ -10,7 +10,7 @@ use Rattle.flow.specs.Net.{Arc, Net, no_arc, arc_at, Joined, Shaped}
 use Rattle.flow.specs.Steps.{along_reach, goes_back, arc_of, begins_at, finishes_at, headroom_at, begins, finishes, IsOpen}
 use Rattle.flow.specs.Flows.{delivered, IsFlow}
 use Rattle.flow.specs.Changes.{Alike}
-use Rattle.flow.specs.Routes.{IsWalk, Finished, Reached}
+use Rattle.flow.specs.Routes.{IsWalk, Finished}
 use Rattle.flow.specs.Cuts.{Side, IsCut, crosses, limit_across, cut_sum, crossing_count, IsBottleneck, IsBest, Agree}
 use Rattle.flow.specs.CutLaws.{amount_across, carried_across, exchanged}
 use Rattle.flow.proofs.Sums.{sum_of-same, sum_of-zero, sum_of-tight, tick}
@@ -171,6 +171,7 @@ agreed g h near other shaped a flow flow' best best' = record {
 }
   where
     sides : (v : ℕ) → v < g.junctions → near v ≡ other v
-    sides v low = same_from_decides {P = IsTrue (near v)} (near v) (other v) (λ e. e, λ e. e)
-        (contained g h near other a flow flow' best best' v low,
-        contained h g other near (sym a) flow' flow best' best v (omega (arith, junctions-alike g h a)))
+    sides v low = same_from_decides {P = IsTrue (near v)} (near v) (other v) (λ e. e, λ e. e) (
+      contained g h near other a flow flow' best best' v low,
+      contained h g other near (sym a) flow' flow best' best v (omega (arith, junctions-alike g h a)),
+    )

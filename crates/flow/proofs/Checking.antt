@@ -1,22 +1,21 @@
 -- The worked cases, by tests that compute.
-use Rattle.std.proofs.Common.{◌≡◌, ℕ, zero, suc, ◌+◌, ◌*◌, ◌<◌, ◌≤◌, ◌⊎◌, Bool, true, false, not, ◌&&◌, ◌||◌, List, [], ◌∷◌, length, ◌==◌, get_or, ℤ, pos, refl, sym, ap, ◌∙◌, inl, inr, ⊎_elim, arith}
-use Rattle.std.specs.Bool.{Decides}
+use Rattle.std.proofs.Common.{◌≡◌, ℕ, zero, suc, ◌+◌, ◌*◌, ◌<◌, Bool, true, false, not, ◌&&◌, ◌||◌, List, [], ◌∷◌, length, ◌==◌, get_or, refl, sym, ◌∙◌, inl, inr, ⊎_elim, arith}
 use Rattle.std.specs.Prelude.{◌↔◌, IsTrue, nat_lt, nat_le, bytes_eq}
 use Rattle.std.specs.Cmp.Lexicographic.{bytes_decides}
-use Rattle.std.specs.List.{All, AllByRecursion}
+use Rattle.std.specs.List.{AllByRecursion}
 use Rattle.std.proofs.lemmas.List.Elements.{All-from_recursion}
 use Rattle.std.proofs.lemmas.Bool.{true≢false, both_ways, and_parts, or_cases, not-true, cases_Bool, ltb-true, lt-ltb, leb-true, eqb-true}
 use Rattle.std.proofs.lemmas.Bool.Decides.{nat_tests, Decides-below_and}
 use Rattle.std.proofs.lemmas.Int.{ints}
 use Rattle.flow.specs.Net.{Arc, Net}
-use Rattle.flow.specs.Steps.{along_reach, begins, finishes, headroom, IsOpen}
-use Rattle.flow.specs.Flows.{leaving, entering, delivered}
-use Rattle.flow.specs.Routes.{IsWalk, IsRoute, Finished, Reached, GoesFirst, IsFirst}
-use Rattle.flow.specs.Pushes.{pushed, pushed_all, EachPushed, litres_of, Settles}
+use Rattle.flow.specs.Steps.{begins, finishes, headroom, IsOpen}
+use Rattle.flow.specs.Flows.{leaving, entering}
+use Rattle.flow.specs.Routes.{IsWalk, Finished, Reached, GoesFirst, IsFirst}
+use Rattle.flow.specs.Pushes.{pushed, pushed_all, EachPushed, litres_of}
 use Rattle.flow.specs.Cuts.{IsBottleneck}
 use Rattle.flow.specs.Labels.{Labels, IsAdmissible, IsFirstAdmissible}
 use Rattle.flow.specs.Histories.{marked}
-use Rattle.flow.specs.Cases.{Case, amounts_of, Holds, five, seven, worked, WorkedCases}
+use Rattle.flow.specs.Cases.{Case, amounts_of, Holds, worked, WorkedCases}
 use Rattle.flow.proofs.Walks.{open_in}
 use Rattle.flow.proofs.Besting.{Closed, near_along}
 use Rattle.flow.proofs.Order.{goes_first, goes_first-decides}
@@ -104,8 +103,8 @@ leads_from rs label from [] to pass = (eqb-true from to pass, tt)
 leads_from rs label from (s ∷ ss) to pass =
     let x = and_parts (is_admissible rs label from s) _ pass in
     let y = and_parts (each_open rs (is_no_earlier rs label from s)) _ x.1 in
-    let (start , here) = admissible_from rs label from s x.0 in
-    let (walk , rest) = leads_from rs label (finishes rs s) ss to y.1 in
+    let (start, here) = admissible_from rs label from s x.0 in
+    let (walk, rest) = leads_from rs label (finishes rs s) ss to y.1 in
     let first : IsFirstAdmissible label rs s =
     record { admissible = here; first = first_from_test rs label from s y.0 } in
     ((start, here.opens, walk), (first, rest))
@@ -121,7 +120,7 @@ module _ (g : Net) (labels ss : List ℕ) where
   first_from : is_first ≡ true → IsFirst g ss
   first_from pass =
       let x = and_parts (are_labels g label_in) _ pass in
-      let (walk , firsts) = leads_from g.reaches label_in g.intake ss g.outfall x.1 in
+      let (walk, firsts) = leads_from g.reaches label_in g.intake ss g.outfall x.1 in
       let all = All-from_recursion (IsFirstAdmissible label_in g.reaches) ss firsts in
       first_from_labels g label_in ss (labels_from g label_in x.0) walk all
 
@@ -239,9 +238,10 @@ module _ (c : Case) (shown : Shown) where
       record {
         settles = record {
           firsts = firsts_from c.net shown.labels c.routes firsts.0;
-          spent = leb-true _ _ spent.0;
+          spent = omega (arith, leb-true _ _ spent.0);
           stops = ⊎_elim (λ (e : c.finished ≡ true). inl (tells.0 e))
-              (λ (all : (length c.routes == c.budget) ≡ true). inr (eqb-true _ _ all)) (or_cases c.finished _ spent.1);
+              (λ (all : (length c.routes == c.budget) ≡ true). inr (omega (arith, eqb-true _ _ all)))
+              (or_cases c.finished _ spent.1);
         };
         amounts = (bytes_decides (amounts_of c.net c.routes) c.amounts).0 added.0;
         litres = eqb-true _ _ added.1;

@@ -51,7 +51,7 @@ walk_from_near rs to (suc k) v near = ⊎_elim
   where
     onward : (s : ℕ) × (s < 2 * length rs) × LeadsOn rs to k v s →
         ((u : ℕ) → is_near rs to k u ≡ true → WalkWithin rs u to k) → WalkWithin rs v to (suc k)
-    onward (s , low , leads) rest =
+    onward (s, low, leads) rest =
         let x = rest (finishes rs s) leads.1.1 in
         record { steps = s ∷ x.steps; walk = (leads.1.0, leads.0, x.walk); short = omega (arith, x.short) }
 

@@ -76,14 +76,17 @@ module _ (label : ℕ → ℕ) (rs : List Arc) (v : ℕ) where
     where
       either : ((t : ℕ) × FirstBelow passes (2 * length rs) t) ⊎ ((t : ℕ) → t < 2 * length rs → passes t ≡ false) →
           (t : ℕ) × (begins rs t ≡ v) × IsFirstAdmissible label rs t
-      either (inl (t , f)) =
+      either (inl (t, f)) =
           let x = (decided t).0 f.passes in
           let test = λ (u : ℕ) (there : begins rs u ≡ begins rs t) (a : IsAdmissible label rs u).
-          (decided u).1 (a.opens, (there ∙ x.1.0, a.falls)) in
-          (t, x.1.0, record {
-            admissible = record { opens = x.0; falls = x.1.1 };
-            first = λ u there a. f.first u (omega (arith, open_in rs u a.opens)) (test u there a);
-          })
+          (decided u).1 (a.opens, (there ∙ x.1.0, a.falls)) in (
+            t,
+            x.1.0,
+            record {
+              admissible = record { opens = x.0; falls = x.1.1 };
+              first = λ u there a. f.first u (omega (arith, open_in rs u a.opens)) (test u there a);
+            },
+          )
       either (inr none) =
           let low = open_in rs s is.opens in
           absurd (both_ways (passes s) (none s (omega arith)) ((decided s).1 (is.opens, (at, is.falls))))
@@ -109,7 +112,7 @@ walk_from_exact g label shaped exact (suc m) v is low less = ⊎_elim
         ((u : ℕ) → label u ≡ m → u < g.junctions → label u < g.junctions → FirstWalk g label u) → FirstWalk g label v
     onward ne rest =
         let x = exact.next v low ne less in
-        let (s , from , first) = first_admissible label g.reaches v x.0 x.1 x.2 in
+        let (s, from, first) = first_admissible label g.reaches v x.0 x.1 x.2 in
         let opens = first.admissible.opens in
         let falls : label (begins g.reaches s) ≡ label (finishes g.reaches s) + 1 = first.admissible.falls in
         let start : label (begins g.reaches s) ≡ label v = ap label from in
@@ -131,7 +134,7 @@ pub first_found : (g : Net) → Shaped g → ((ss : List ℕ) × IsFirst g ss) �
 first_found g shaped = either (exact_found g shaped)
   where
     either : (label : ℕ → ℕ) × ExactLabels g label → ((ss : List ℕ) × IsFirst g ss) ⊎ Finished g
-    either (label , exact) = ⊎_elim
+    either (label, exact) = ⊎_elim
         (λ (low : label g.intake < g.junctions).
         let x = exact_walk g label g.intake shaped exact shaped.intake_in low in
         let firsts = All-from_recursion (IsFirstAdmissible label g.reaches) x.steps x.firsts in

@@ -1,13 +1,13 @@
 -- The first shortest route: there is at most one, and labels lead to it.
-use Rattle.std.proofs.Common.{◌≡◌, ℕ, ◌+◌, ◌<◌, ◌≤◌, ◌⊎◌, List, [], ◌∷◌, length, sym, ap, ◌∙◌, subst, inl, inr, arith}
+use Rattle.std.proofs.Common.{◌≡◌, ℕ, ◌+◌, ◌≤◌, ◌⊎◌, List, [], ◌∷◌, length, sym, ◌∙◌, subst, inl, inr, arith}
 use Rattle.std.specs.List.{All, AllByRecursion}
 use Rattle.std.proofs.lemmas.List.Elements.{All-weaker, recursion_from_All}
 use Rattle.flow.specs.Net.{Arc, Net}
-use Rattle.flow.specs.Steps.{begins, finishes}
+use Rattle.flow.specs.Steps.{finishes}
 use Rattle.flow.specs.Routes.{IsWalk, IsRoute, IsShortest, GoesFirst, IsNoLater, IsFirst}
 use Rattle.flow.specs.Labels.{Labels, IsAdmissible, IsFirstAdmissible}
 use Rattle.flow.proofs.Order.{GoesFirst-cases, IsNoLater-both}
-use Rattle.flow.proofs.Labelling.{AllFall, IsDescent, descent_from_admissible, labels_bound, descent_length, descent_from_length}
+use Rattle.flow.proofs.Labelling.{AllFall, descent_from_admissible, labels_bound, descent_length, descent_from_length}
 
 pub first_unique : (g : Net) (ss ts : List ℕ) → IsFirst g ss → IsFirst g ts → ss ≡ ts
 first_unique g ss ts p q =

@@ -1,5 +1,5 @@
 -- Sums over junctions.
-use Rattle.std.proofs.Common.{◌≡◌, ℕ, zero, suc, ◌+◌, ◌*◌, ◌<◌, ◌≤◌, ◌≢◌, Bool, cond, List, [], ◌∷◌, ◌==◌, refl, sym, ap, ⊎_elim, arith}
+use Rattle.std.proofs.Common.{◌≡◌, ℕ, zero, suc, ◌+◌, ◌*◌, ◌<◌, ◌≤◌, ◌≢◌, Bool, cond, List, [], ◌∷◌, ◌==◌, refl, ap, ⊎_elim, arith}
 use Rattle.std.specs.List.{All}
 use Rattle.std.proofs.lemmas.List.Elements.{All-head, All-tail}
 use Rattle.std.proofs.lemmas.Bool.{cases_eq, cases_lt}
@@ -38,7 +38,8 @@ pub sum_below-differ : (f h : ℕ → ℕ) (s n : ℕ) → s < n → ((v : ℕ) 
 sum_below-differ f h s zero low each = absurd (omega arith)
 sum_below-differ f h s (suc n) low each = ⊎_elim
     (λ (here : n ≡ s).
-    let rest = sum_below-same f h n (λ v less. each v (omega arith) (omega arith)) in omega (arith, rest, ap f here, ap h here))
+    let rest = sum_below-same f h n (λ v less. each v (omega arith) (omega arith)) in
+    omega (arith, rest, ap f here, ap h here))
     (λ (ne : n ≢ s). further ne (λ below. sum_below-differ f h s n below (λ v less. each v (omega arith))))
     (cases_eq n s)
   where
@@ -103,10 +104,11 @@ by_junction end amount near n [] low = sum_below-zero _ n (λ v less. grind arit
 by_junction end amount near n (r ∷ rs) low =
     let here : ℕ → ℕ = λ v. cond (near v) (cond (end r == v) (amount r) 0) 0 in
     let rest : ℕ → ℕ = λ v. cond (near v) (sum_of (λ q. cond (end q == v) (amount q) 0) rs) 0 in
-    let both : ℕ → ℕ = λ v. cond (near v) (cond (end r == v) (amount r) 0 + sum_of (λ q. cond (end q == v) (amount q) 0) rs) 0 in
+    let at : ℕ → ℕ = λ v. sum_of (λ q. cond (end q == v) (amount q) 0) rs in
+    let both : ℕ → ℕ = λ v. cond (near v) (cond (end r == v) (amount r) 0 + at v) 0 in
     let split : sum_below both n ≡ sum_below (λ v. here v + rest v) n = sum_below-same both _ n (λ v less. grind arith) in
     let one : sum_below here n ≡ here (end r) =
     sum_below-one here (end r) n (All-head (λ q. end q < n) r rs low) (λ v less ne. grind (arith, nat_tests)) in
-    let at : here (end r) ≡ cond (near (end r)) (amount r) 0 = grind (arith, nat_tests) in
+    let is : here (end r) ≡ cond (near (end r)) (amount r) 0 = grind (arith, nat_tests) in
     let tail = by_junction end amount near n rs (All-tail (λ q. end q < n) r rs low) in
-    omega (arith, split, one, at, tail, sum_below-add here rest n)
+    omega (arith, split, one, is, tail, sum_below-add here rest n)

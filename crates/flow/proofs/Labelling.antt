@@ -1,5 +1,5 @@
 -- What labels say of walks, and what they are after a route is pushed along which they fall, or a junction relabelled.
-use Rattle.std.proofs.Common.{◌≡◌, ℕ, ◌+◌, ◌*◌, ◌/◌, ◌%◌, ◌<◌, ◌≤◌, ◌≢◌, ◌⊎◌, Bool, true, false, cond, List, [], ◌∷◌, length, ◌==◌, refl, sym, ap, ◌∙◌, subst, inl, inr, ⊎_elim, arith}
+use Rattle.std.proofs.Common.{◌≡◌, ℕ, ◌+◌, ◌≤◌, ◌≢◌, ◌⊎◌, Bool, true, false, List, [], ◌∷◌, length, refl, sym, ap, ◌∙◌, subst, inl, inr, ⊎_elim, arith}
 use Rattle.std.specs.List.{All, AllByRecursion}
 use Rattle.std.proofs.lemmas.List.Elements.{All-weaker, All-from_recursion, recursion_from_All}
 use Rattle.std.proofs.lemmas.Bool.{cases_eq}
@@ -7,7 +7,7 @@ use Rattle.std.proofs.lemmas.Bool.Decides.{nat_tests}
 use Rattle.flow.specs.Net.{Arc, Net, arc_at, Shaped}
 use Rattle.flow.specs.Steps.{along_reach, goes_back, arc_of, begins_at, finishes_at, begins, finishes, IsOpen}
 use Rattle.flow.specs.Changes.{with_reaches}
-use Rattle.flow.specs.Routes.{IsWalk, IsRoute}
+use Rattle.flow.specs.Routes.{IsWalk}
 use Rattle.flow.specs.Pushes.{least_headroom, shifted, shifted_along, pushed}
 use Rattle.flow.specs.Labels.{Labels, IsAdmissible, relabelled}
 use Rattle.flow.proofs.Walks.{ends_in}
@@ -34,7 +34,8 @@ pub descent_from_admissible : (label : ℕ → ℕ) (rs : List Arc) (from : ℕ)
     All (IsAdmissible label rs) ss → IsDescent label rs from ss to
 descent_from_admissible label rs from ss to w all = record {
   walk = w;
-  falls = recursion_from_All (Falls label rs) ss (All-weaker (IsAdmissible label rs) (Falls label rs) (λ s a. a.falls) ss all);
+  falls = recursion_from_All (Falls label rs) ss
+      (All-weaker (IsAdmissible label rs) (Falls label rs) (λ s a. a.falls) ss all);
 }
 
 pub admissible_from_descent : (label : ℕ → ℕ) (rs : List Arc) (from : ℕ) (ss : List ℕ) (to : ℕ) →

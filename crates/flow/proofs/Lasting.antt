@@ -1,27 +1,19 @@
 -- What histories keep of a network, and what their parts push.
-use Rattle.std.proofs.Common.{◌≡◌, ℕ, ◌+◌, ◌-◌, ◌*◌, ◌<◌, ◌≤◌, ◌≢◌, ◌⊎◌, Bool, true, List, [], ◌∷◌, ◌++◌, map, length, ℤ, pos, refl, sym, ap, ◌∙◌, ap₂, subst, inl, inr, arith, length-append, length-set}
+use Rattle.std.proofs.Common.{◌≡◌, ℕ, ◌<◌, ◌≤◌, ◌≢◌, List, [], ◌∷◌, ◌++◌, length, refl, sym, ap, ◌∙◌, subst, arith, length-append, length-set}
 use lib.ListN.{length-map}
 use Rattle.std.specs.List.{All}
-use Rattle.std.specs.Prelude.{IsTrue, ◌↔◌, ◌≤ℤ◌}
 use Rattle.std.proofs.lemmas.List.Elements.{All-set, All-map, All-weaker, All-head, All-tail}
-use Rattle.std.proofs.lemmas.Bool.Decides.{nat_tests, same_from_decides}
-use Rattle.flow.specs.Bounds.{highest_limit, highest_setting}
+use Rattle.std.proofs.lemmas.Bool.Decides.{nat_tests}
 use Rattle.flow.specs.Net.{Arc, Net, Shaped, Sound, arc_at}
-use Rattle.flow.specs.Flows.{sum_of, out_of, into, leaving, entering, delivered, IsFlow}
-use Rattle.flow.specs.Changes.{carrying, limiting, relimited, drained, Alike}
-use Rattle.flow.specs.Routes.{Finished, IsShortest, IsFirst}
-use Rattle.flow.specs.Pushes.{pushed_all, EachPushed, litres_of}
-use Rattle.flow.specs.Cuts.{Side, IsBottleneck, IsBest, Agree}
-use Rattle.flow.specs.Histories.{Outcome, Event, settling, limit_change, draining, tally, bottleneck, reading, refusal, after_call, after_calls, IsSettling, IsNamed, marked, Happens, IsHistory, Commissioned, Disturbs, IsIdle, StandsFinished, routes_of, routes_counted}
-use Rattle.flow.specs.Promises.{Promise, PromiseKept}
-use Rattle.flow.specs.HistoryLaws.{HistoryLaws}
+use Rattle.flow.specs.Flows.{sum_of, out_of, into, leaving, entering, IsFlow}
+use Rattle.flow.specs.Changes.{carrying, limiting, relimited, drained}
+use Rattle.flow.specs.Routes.{Finished, IsFirst}
+use Rattle.flow.specs.Pushes.{pushed_all, EachPushed}
+use Rattle.flow.specs.Histories.{Event, settling, limit_change, draining, after_call, after_calls, Happens, IsHistory, Commissioned, Disturbs, IsIdle, StandsFinished, routes_counted}
 use Rattle.flow.proofs.Sums.{sum_of-none, sum_of-zero, sum_of-set_same, out_of-le, into-le}
 use Rattle.flow.proofs.Changing.{keeps_sound}
 use Rattle.flow.proofs.Likeness.{bare-alike, length-alike, junctions-alike, Shaped-alike}
-use Rattle.flow.proofs.Besting.{best_cut, agreed}
-use Rattle.flow.proofs.Finding.{bottleneck_found}
-use Rattle.flow.proofs.Running.{runs_bounded}
-use Rattle.flow.proofs.Machining.{EachPushed-append, EachPushed-at, shortest_from_first, pushed_all-append, raised_all, settles_unique}
+use Rattle.flow.proofs.Machining.{EachPushed-append, shortest_from_first, pushed_all-append, raised_all}
 
 -- draining, and a limit no lower than what is carried, leave a flow
 pub drained_flow : (g : Net) → IsFlow (drained g)
@@ -160,7 +152,7 @@ pub run_of : (part : List Event) (g : Net) → All Calm part → IsHistory part 
 run_of [] g calm h = ([], record { firsts = tt; leaves = refl; counts = refl })
 run_of (settling budget routes answer ∷ es) g calm h =
     let rest = All-tail Calm (settling budget routes answer) es calm in
-    let (more , is) = run_of es (pushed_all routes g) rest h.1 in
+    let (more, is) = run_of es (pushed_all routes g) rest h.1 in
     let run : IsRun g (after_calls es (pushed_all routes g)) (settling budget routes answer ∷ es) (routes ++ more) =
     record {
       firsts = EachPushed-append IsFirst g routes more h.0.settles.firsts is.firsts;
@@ -171,5 +163,5 @@ run_of (settling budget routes answer ∷ es) g calm h =
 run_of (limit_change k q ∷ es) g calm h = absurd (All-head Calm (limit_change k q) es calm tt)
 run_of (draining ∷ es) g calm h = absurd (All-head Calm draining es calm tt)
 run_of (e ∷ es) g calm h =
-    let (routes , is) = run_of es g (All-tail Calm e es calm) h.1 in
+    let (routes, is) = run_of es g (All-tail Calm e es calm) h.1 in
     (routes, record { firsts = is.firsts; leaves = is.leaves; counts = omega (arith, is.counts) })

@@ -1,27 +1,20 @@
 -- The laws of specs/, each put together from the lemmas that prove its parts.
-use Rattle.std.proofs.Common.{◌≡◌, ℕ, zero, suc, ◌+◌, ◌<◌, ◌≢◌, cond, List, [], ◌∷◌, length, refl, sym, ap, ◌∙◌, arith}
-use Rattle.std.specs.List.{All, AllPairs}
-use Rattle.std.specs.Prelude.{slice_index_or}
+use Rattle.std.proofs.Common.{ℕ, zero, suc, ◌≢◌, List, [], ◌∷◌, sym, arith}
 use Rattle.std.proofs.lemmas.List.Elements.{All-from_recursion}
 use Rattle.std.proofs.lemmas.Int.{ints}
-use Rattle.flow.specs.Net.{Net, Shaped}
 use Rattle.flow.specs.Steps.{along_reach}
-use Rattle.flow.specs.Flows.{IsFlow}
-use Rattle.flow.specs.Routes.{IsWalk, IsShortest}
-use Rattle.flow.specs.Cuts.{Side, IsCut}
-use Rattle.flow.specs.Labels.{Labels, IsAdmissible, IsFirstAdmissible, ExactLabels}
-use Rattle.flow.specs.RouteLaws.{NoReachTwice, RouteLaws, PushLaws, RunsBounded, MachineLaws}
+use Rattle.flow.specs.RouteLaws.{NoReachTwice, RouteLaws, PushLaws, MachineLaws}
 use Rattle.flow.specs.CutLaws.{CutLaws}
 use Rattle.flow.specs.LabelLaws.{LabelLaws}
 use Rattle.flow.proofs.Likeness.{Shaped-alike}
 use Rattle.flow.proofs.Cutting.{cut_balance, carried_across-le}
 use Rattle.flow.proofs.Besting.{best_cut, agreed}
-use Rattle.flow.proofs.Pushing.{Off, Apart, raised, least_above_0, Sound-pushed}
+use Rattle.flow.proofs.Pushing.{Apart, raised, least_above_0, Sound-pushed}
 use Rattle.flow.proofs.Labelling.{descent_from_admissible, admissible_from_descent, labels_bound, labels_pushed, still_pushed, labels_relabelled, still_elsewhere}
 use Rattle.flow.proofs.Firsts.{first_unique, first_from_labels}
 use Rattle.flow.proofs.Distances.{shortest_length, shortest_labels}
 use Rattle.flow.proofs.Finding.{bottleneck_found, high_finished, exact_found, exact_walk, first_found}
-use Rattle.flow.proofs.Running.{descent_along, runs_bounded}
+use Rattle.flow.proofs.Running.{descent_along}
 use Rattle.flow.proofs.Machining.{shortest_apart, raised_all, settles_unique, settles_found, enough}
 use Rattle.flow.proofs.Lasting.{drained_flow, limited_flow}
 
@@ -57,7 +50,9 @@ machine_laws = record { one = settles_unique; found = settles_found; enough = en
 pub cut_laws : CutLaws
 cut_laws = record {
   identity = λ g near shaped flow cut. omega (arith, ints, cut_balance g near shaped flow cut);
-  duality = λ g near shaped flow cut. omega (arith, ints, cut_balance g near shaped flow cut, carried_across-le near g.reaches flow.within);
+  duality = λ g near shaped flow cut.
+      let most = carried_across-le near g.reaches flow.within in
+      omega (arith, ints, cut_balance g near shaped flow cut);
   found = bottleneck_found;
   best = best_cut;
   agree = λ g h near other shaped a flow flows finished others is is'.
@@ -77,7 +72,7 @@ label_laws = record {
   relabelling = labels_relabelled;
   elsewhere = still_elsewhere;
   found = exact_found;
-  exact = λ g label v shaped is low less. 
+  exact = λ g label v shaped is low less.
       let x = exact_walk g label v shaped is low less in (x.steps, x.walk, x.long);
   tight = λ g ss is.
       let x = shortest_labels g ss is in

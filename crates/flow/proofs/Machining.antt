@@ -1,11 +1,11 @@
 -- Routes pushed one after another, and the plain machine.
-use Rattle.std.proofs.Common.{◌≡◌, ℕ, zero, suc, ◌+◌, ◌-◌, ◌*◌, ◌<◌, ◌≤◌, ◌⊎◌, List, [], ◌∷◌, ◌++◌, length, ℤ, pos, refl, sym, ap, ap₂, ◌∙◌, subst, inl, inr, arith, length-append}
+use Rattle.std.proofs.Common.{◌≡◌, ℕ, zero, suc, ◌-◌, ◌*◌, ◌≤◌, ◌⊎◌, List, [], ◌∷◌, ◌++◌, length, refl, sym, ap₂, ◌∙◌, subst, inl, inr, arith, length-append}
 use Rattle.std.proofs.lemmas.Int.{ints}
-use Rattle.flow.specs.Net.{Net, Shaped, arc_at, Within}
-use Rattle.flow.specs.Flows.{leaving, entering, out_of, into, delivered, IsFlow}
-use Rattle.flow.specs.Changes.{carrying, limiting, relimited, drained, Alike}
+use Rattle.flow.specs.Net.{Net, Shaped}
+use Rattle.flow.specs.Flows.{IsFlow}
+use Rattle.flow.specs.Changes.{Alike}
 use Rattle.flow.specs.Routes.{Finished, IsShortest, IsFirst}
-use Rattle.flow.specs.Pushes.{least_headroom, pushed, pushed_all, EachPushed, litres_of, Settles}
+use Rattle.flow.specs.Pushes.{pushed, pushed_all, EachPushed, litres_of, Settles}
 use Rattle.flow.specs.RouteLaws.{IsRaised}
 use Rattle.flow.proofs.Likeness.{Shaped-alike}
 use Rattle.flow.proofs.Pushing.{Apart, Alike-pushed, raised}
@@ -108,7 +108,7 @@ settles_found g (suc b) shaped =
   where
     either : ((ss : List ℕ) × IsFirst g ss) ⊎ Finished g → ((ss : List ℕ) → Settled (pushed ss g) b) → Settled g (suc b)
     either (inr finished) rest = ([], record { firsts = tt; spent = omega arith; stops = inl finished })
-    either (inl (ss , is)) rest = let x = rest ss in (ss ∷ x.0, Settles-more g b ss x.0 is x.1)
+    either (inl (ss, is)) rest = let x = rest ss in (ss ∷ x.0, Settles-more g b ss x.0 is x.1)
 
 -- a budget of m × (n − 1) is enough
 pub enough : (g : Net) (budget : ℕ) (routes : List (List ℕ)) → Shaped g → Settles g budget routes →
@@ -130,4 +130,4 @@ enough g budget routes shaped p big = either p.stops (first_found (pushed_all ro
         Finished (pushed_all routes g)
     either (inl finished) next = finished
     either (inr spent) (inr finished) = finished
-    either (inr spent) (inl (ss , is)) = absurd (no_more ss is spent)
+    either (inr spent) (inl (ss, is)) = absurd (no_more ss is spent)

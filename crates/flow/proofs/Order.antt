@@ -1,5 +1,5 @@
 -- The order in which of two steps one goes first. Other proofs rest on what is proved here of it, and not on its text.
-use Rattle.std.proofs.Common.{◌≡◌, ℕ, zero, suc, ◌<◌, ◌≤◌, ◌⊎◌, Bool, true, false, List, [], ◌∷◌, length, refl, ap, ap₂, ◌∙◌, inl, inr, ⊎_elim, arith}
+use Rattle.std.proofs.Common.{◌≡◌, ℕ, zero, suc, ◌<◌, ◌⊎◌, Bool, true, false, List, [], ◌∷◌, length, refl, ap₂, inl, inr, ⊎_elim, arith}
 use Rattle.std.proofs.lemmas.Bool.{cases_order, cases_eq, cases_Bool, both_ways}
 use Rattle.std.specs.Bool.{Decides}
 use Rattle.std.specs.Prelude.{nat_lt}
@@ -7,7 +7,12 @@ use Rattle.std.proofs.lemmas.Bool.Decides.{Decides-ltb}
 use Rattle.flow.specs.Routes.{GoesFirst, IsNoLater}
 
 pub GoesFirst-cases : (s t : ℕ) → (s ≡ t) ⊎ (GoesFirst s t ⊎ GoesFirst t s)
-GoesFirst-cases s t = cases_order s t
+GoesFirst-cases s t = either (cases_order s t)
+  where
+    either : (s ≡ t) ⊎ ((s < t) ⊎ (t < s)) → (s ≡ t) ⊎ (GoesFirst s t ⊎ GoesFirst t s)
+    either (inl same) = inl same
+    either (inr (inl below)) = inr (inl (omega arith))
+    either (inr (inr above)) = inr (inr (omega arith))
 
 pub GoesFirst-asym : (s t : ℕ) → GoesFirst s t → ¬ GoesFirst t s
 GoesFirst-asym s t one other = omega arith
@@ -65,8 +70,8 @@ first_below p (suc n) = either (first_below p n) (cases_Bool (p n))
 
     either : ((s : ℕ) × FirstBelow p n s) ⊎ ((t : ℕ) → t < n → p t ≡ false) → (p n ≡ true) ⊎ (p n ≡ false) →
         ((s : ℕ) × FirstBelow p (suc n) s) ⊎ ((t : ℕ) → t < suc n → p t ≡ false)
-    either (inl (s , is)) (inl here) = inl (ordered s is here (GoesFirst-cases n s))
-    either (inl (s , is)) (inr fails) = inl (older p n s is (λ here b. both_ways (p n) fails here))
+    either (inl (s, is)) (inl here) = inl (ordered s is here (GoesFirst-cases n s))
+    either (inl (s, is)) (inr fails) = inl (older p n s is (λ here b. both_ways (p n) fails here))
     either (inr none) (inl here) = inl (newest p n here (λ t low also b. both_ways (p t) (none t low) also))
     either (inr none) (inr fails) = inr (one_more (λ t. p t ≡ false) n fails none)
 

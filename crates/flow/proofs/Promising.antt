@@ -1,28 +1,22 @@
 -- Every history of a network that was commissioned and dry keeps the promise.
-use Rattle.std.proofs.Common.{◌≡◌, ℕ, ◌+◌, ◌-◌, ◌*◌, ◌<◌, ◌≤◌, ◌≢◌, ◌⊎◌, Bool, true, List, [], ◌∷◌, ◌++◌, map, length, ℤ, pos, refl, sym, ap, ◌∙◌, ap₂, subst, inl, inr, arith, length-append, length-set}
-use lib.ListN.{length-map}
+use Rattle.std.proofs.Common.{◌≡◌, ℕ, ◌-◌, ◌*◌, ◌≤◌, Bool, List, [], ◌∷◌, ◌++◌, length, pos, sym, ap, ◌∙◌, ap₂, subst, arith}
 use Rattle.std.specs.List.{All}
 use Rattle.std.specs.Prelude.{IsTrue, ◌↔◌, ◌≤ℤ◌}
-use Rattle.std.proofs.lemmas.List.Elements.{All-set, All-map, All-weaker, All-head, All-tail}
-use Rattle.std.proofs.lemmas.Bool.Decides.{nat_tests, same_from_decides}
-use Rattle.flow.specs.Bounds.{highest_limit, highest_setting}
-use Rattle.flow.specs.Net.{Arc, Net, Shaped, Sound, arc_at}
-use Rattle.flow.specs.Flows.{sum_of, out_of, into, leaving, entering, delivered, IsFlow}
-use Rattle.flow.specs.Changes.{carrying, limiting, relimited, drained, Alike}
+use Rattle.std.proofs.lemmas.Bool.Decides.{same_from_decides}
+use Rattle.flow.specs.Net.{Net}
+use Rattle.flow.specs.Flows.{delivered, IsFlow}
+use Rattle.flow.specs.Changes.{Alike}
 use Rattle.flow.specs.Routes.{Finished, IsShortest, IsFirst}
-use Rattle.flow.specs.Pushes.{pushed_all, EachPushed, litres_of}
+use Rattle.flow.specs.Pushes.{pushed_all, litres_of}
 use Rattle.flow.specs.Cuts.{Side, IsBottleneck, IsBest, Agree}
-use Rattle.flow.specs.Histories.{Outcome, Event, settling, limit_change, draining, tally, bottleneck, reading, refusal, after_call, after_calls, IsSettling, IsNamed, marked, Happens, IsHistory, Commissioned, Disturbs, IsIdle, StandsFinished, routes_of, routes_counted}
-use Rattle.flow.specs.Promises.{Promise, PromiseKept}
+use Rattle.flow.specs.Histories.{Outcome, Event, settling, bottleneck, after_calls, IsSettling, marked, IsHistory, Commissioned, StandsFinished, routes_counted}
+use Rattle.flow.specs.Promises.{PromiseKept}
 use Rattle.flow.specs.HistoryLaws.{HistoryLaws}
-use Rattle.flow.proofs.Sums.{sum_of-none, sum_of-zero, sum_of-set_same, out_of-le, into-le}
-use Rattle.flow.proofs.Changing.{keeps_sound}
-use Rattle.flow.proofs.Likeness.{bare-alike, length-alike, junctions-alike, Shaped-alike}
 use Rattle.flow.proofs.Besting.{best_cut, agreed}
 use Rattle.flow.proofs.Finding.{bottleneck_found}
 use Rattle.flow.proofs.Running.{runs_bounded}
-use Rattle.flow.proofs.Machining.{EachPushed-append, EachPushed-at, shortest_from_first, pushed_all-append, raised_all, settles_unique}
-use Rattle.flow.proofs.Lasting.{after_calls-append, IsHistory-append, IsHistory-before, IsHistory-behind, Lasting, lasting, stands_finished, Calm, IsRun, run_of}
+use Rattle.flow.proofs.Machining.{EachPushed-at, shortest_from_first, settles_unique}
+use Rattle.flow.proofs.Lasting.{after_calls-append, IsHistory-append, IsHistory-before, IsHistory-behind, Lasting, lasting, stands_finished, Calm, run_of}
 
 -- the promise
 module _ (start : Net) (events : List Event) (commissioned : Commissioned start) (history : IsHistory events start) where
@@ -47,7 +41,7 @@ module _ (start : Net) (events : List Event) (commissioned : Commissioned start)
       let at : Net = after_calls before start in
       let x = at_moment before (part ++ behind) are in
       let here = IsHistory-before part behind at (from_moment before (part ++ behind) are) in
-      let (routes , run) = run_of part at calm here in
+      let (routes, run) = run_of part at calm here in
       let most = (runs_bounded at routes x.shaped (shortest_from_first at routes run.firsts)).total in
       let n : at.junctions ≡ end.junctions = sym x.junctions ∙ at_end.junctions in
       let m : length at.reaches ≡ length end.reaches = sym x.reaches ∙ at_end.reaches in
@@ -75,7 +69,7 @@ module _ (start : Net) (events : List Event) (commissioned : Commissioned start)
   best_at_end f = λ near. best_cut end near at_end.shaped at_end.flow (stands_finished events start history f)
 
   most : StandsFinished events → (other : Net) → Alike end other → IsFlow other → delivered other ≤ℤ delivered end
-  most f = let (near , is) = bottleneck_found end at_end.shaped in (best_at_end f near is).most
+  most f = let (near, is) = bottleneck_found end at_end.shaped in (best_at_end f near is).most
 
 -- two networks that stand finished
 same_for_all : (start : Net) (events : List Event) (c : Commissioned start) (h : IsHistory events start)

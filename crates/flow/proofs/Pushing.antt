@@ -1,5 +1,5 @@
 -- What pushing a route does to a network.
-use Rattle.std.proofs.Common.{◌≡◌, ℕ, ◌+◌, ◌-◌, ◌<◌, ◌≤◌, ◌≢◌, min, Bool, true, false, cond, List, [], ◌∷◌, length, ◌==◌, refl, sym, ap, ◌∙◌, subst, arith, get_or-set_other}
+use Rattle.std.proofs.Common.{◌≡◌, ℕ, ◌+◌, ◌-◌, ◌<◌, ◌≤◌, ◌≢◌, min, Bool, true, false, cond, List, [], ◌∷◌, ◌==◌, refl, sym, ap, ◌∙◌, subst, arith, get_or-set_other}
 use Rattle.std.specs.Bool.{⊤}
 use Rattle.std.specs.List.{All, AllByRecursion}
 use Rattle.std.proofs.lemmas.List.Elements.{All-set, All-get_or}
@@ -81,18 +81,18 @@ CanTake-rest d rs from s ss to can = record {
 
 -- d litres more along a reach, forth or back: what that does to the sums of what leaves and of what enters a junction,
 -- where x says that its tail is there, and y that its head is
-moved : (back x y : Bool) (d carried limit leaves leaves' enters enters' : ℕ) → d ≤ cond back carried (limit - carried) →
-    leaves' + cond x carried 0 ≡ leaves + cond x (cond back (carried - d) (carried + d)) 0 →
-    enters' + cond y carried 0 ≡ enters + cond y (cond back (carried - d) (carried + d)) 0 →
+moved : (back x y : Bool) (d : ℕ) (r : Arc) (leaves leaves' enters enters' : ℕ) → d ≤ headroom_at back r →
+    leaves' + cond x r.carried 0 ≡ leaves + cond x (amount_after d back r) 0 →
+    enters' + cond y r.carried 0 ≡ enters + cond y (amount_after d back r) 0 →
     leaves' + enters + cond (cond back x y) d 0 ≡ leaves + enters' + cond (cond back y x) d 0
-moved true true true d c m l l' e e' fits tails heads = omega arith
-moved true true false d c m l l' e e' fits tails heads = omega arith
-moved true false true d c m l l' e e' fits tails heads = omega arith
-moved true false false d c m l l' e e' fits tails heads = omega arith
-moved false true true d c m l l' e e' fits tails heads = omega arith
-moved false true false d c m l l' e e' fits tails heads = omega arith
-moved false false true d c m l l' e e' fits tails heads = omega arith
-moved false false false d c m l l' e e' fits tails heads = omega arith
+moved true true true d r l l' e e' fits tails heads = omega arith
+moved true true false d r l l' e e' fits tails heads = omega arith
+moved true false true d r l l' e e' fits tails heads = omega arith
+moved true false false d r l l' e e' fits tails heads = omega arith
+moved false true true d r l l' e e' fits tails heads = omega arith
+moved false true false d r l l' e e' fits tails heads = omega arith
+moved false false true d r l l' e e' fits tails heads = omega arith
+moved false false false d r l l' e e' fits tails heads = omega arith
 
 either_end : (back : Bool) (x y v : ℕ) → (cond back x y == v) ≡ cond back (x == v) (y == v)
 either_end true x y v = refl
@@ -108,7 +108,7 @@ step_balance d rs s v opens fits =
     let tails = sum_of-set (out_of v) rs (along_reach s) r' (open_in rs s opens) in
     let heads = sum_of-set (into v) rs (along_reach s) r' (open_in rs s opens) in
     rw (either_end (goes_back s) r.tail r.head v, either_end (goes_back s) r.head r.tail v)
-    (moved (goes_back s) (r.tail == v) (r.head == v) d r.carried r.limit _ _ _ _ fits tails heads)
+    (moved (goes_back s) (r.tail == v) (r.head == v) d r _ _ _ _ fits tails heads)
 
 -- and so does a walk
 along_balance : (d : ℕ) (rs : List Arc) (v from : ℕ) (ss : List ℕ) (to : ℕ) → CanTake d rs from ss to →

@@ -1,5 +1,5 @@
 -- Each push along which labels fall leaves one reach fewer with an admissible step.
-use Rattle.std.proofs.Common.{◌≡◌, ℕ, ◌+◌, ◌-◌, ◌*◌, ◌<◌, ◌≤◌, ◌≢◌, ◌⊎◌, min, Bool, true, false, ◌&&◌, ◌||◌, List, [], ◌∷◌, length, ◌==◌, refl, ◌∙◌, subst, inl, inr, ⊎_elim, arith}
+use Rattle.std.proofs.Common.{◌≡◌, ℕ, ◌+◌, ◌<◌, ◌≤◌, ◌≢◌, ◌⊎◌, min, Bool, true, false, ◌&&◌, ◌||◌, List, [], ◌∷◌, length, ◌==◌, refl, ◌∙◌, subst, inl, inr, ⊎_elim, arith}
 use Rattle.std.specs.Prelude.{nat_lt, slice_index_or}
 use Rattle.std.proofs.lemmas.Bool.{cases_lt}
 use Rattle.std.proofs.lemmas.Bool.Decides.{nat_tests}
@@ -111,4 +111,5 @@ pub spent_pushed : (g : Net) (label : ℕ → ℕ) (ss : List ℕ) → g.intake 
     IsDescent label g.reaches g.intake ss g.outfall → live_count label (pushed ss g).reaches < live_count label g.reaches
 spent_pushed g label [] differ down = absurd (differ down.walk)
 spent_pushed g label (s ∷ ss) differ down =
-    spent_along label (least_headroom g.reaches (s ∷ ss)) g.reaches g.intake (s ∷ ss) g.outfall down (Takes-least g.reaches s ss)
+    spent_along label (least_headroom g.reaches (s ∷ ss)) g.reaches g.intake (s ∷ ss) g.outfall down
+    (Takes-least g.reaches s ss)

@@ -1,5 +1,5 @@
 -- Steps and walks.
-use Rattle.std.proofs.Common.{◌≡◌, ℕ, ◌+◌, ◌-◌, ◌*◌, ◌/◌, ◌<◌, ◌≤◌, ◌≢◌, Bool, true, false, cond, List, [], ◌∷◌, ◌++◌, length, refl, sym, ap, ◌∙◌, subst, ⊎_elim, arith}
+use Rattle.std.proofs.Common.{◌≡◌, ℕ, ◌+◌, ◌-◌, ◌*◌, ◌/◌, ◌<◌, ◌≤◌, ◌≢◌, Bool, true, false, List, [], ◌∷◌, ◌++◌, length, refl, sym, ap, subst, ⊎_elim, arith}
 use Rattle.std.specs.List.{All}
 use Rattle.std.proofs.lemmas.List.{get_or_past}
 use Rattle.std.proofs.lemmas.List.Elements.{All-get_or}
@@ -18,13 +18,15 @@ no_room false = refl
 pub open_in : (rs : List Arc) (s : ℕ) → IsOpen rs s → along_reach s < length rs
 open_in rs s opens = ⊎_elim (λ (low : along_reach s < length rs). low)
     (λ (high : length rs ≤ along_reach s).
-    let past : headroom rs s ≡ headroom_at (goes_back s) no_arc = ap (headroom_at (goes_back s)) (get_or_past rs (along_reach s) no_arc high) in
-    absurd (let z : ⊥ = omega (arith, past, no_room (goes_back s)) in z)) (cases_lt (along_reach s) (length rs))
+    let past : headroom rs s ≡ headroom_at (goes_back s) no_arc =
+    ap (headroom_at (goes_back s)) (get_or_past rs (along_reach s) no_arc high) in
+    absurd (omega (arith, no_room (goes_back s)))) (cases_lt (along_reach s) (length rs))
 
 -- the ends of an open step are two different junctions
 pub ends_in : (n : ℕ) (rs : List Arc) (s : ℕ) → All (Joined n) rs → IsOpen rs s →
     (begins rs s < n) × (finishes rs s < n) × (begins rs s ≢ finishes rs s)
-ends_in n rs s joined opens = either (goes_back s) (All-get_or (Joined n) rs (along_reach s) no_arc (open_in rs s opens) joined)
+ends_in n rs s joined opens =
+    either (goes_back s) (All-get_or (Joined n) rs (along_reach s) no_arc (open_in rs s opens) joined)
   where
     either : (back : Bool) → Joined n (arc_of rs s) →
         (begins_at back (arc_of rs s) < n) × (finishes_at back (arc_of rs s) < n)

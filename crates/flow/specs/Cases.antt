@@ -1,5 +1,5 @@
 -- Networks with the routes that the plain machine pushes, worked out.
-use Rattle.std.specs.Prelude.{◌≡◌, ℕ, Bool, true, false, IsTrue, ◌↔◌, List, [], ◌∷◌, All, ℤ, pos}
+use Rattle.std.specs.Prelude.{◌≡◌, ℕ, Bool, true, false, IsTrue, ◌↔◌, List, [], ◌∷◌, All, pos}
 use Rattle.flow.specs.Net.{Arc, Net}
 use Rattle.flow.specs.Flows.{delivered}
 use Rattle.flow.specs.Routes.{Finished}

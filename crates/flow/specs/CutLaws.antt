@@ -1,5 +1,5 @@
 -- Laws about cuts and the bottleneck.
-use Rattle.std.specs.Prelude.{◌≡◌, ℕ, Bool, cond, not, List, ℤ, pos, ◌-ℤ◌, ◌≤ℤ◌}
+use Rattle.std.specs.Prelude.{◌≡◌, ℕ, cond, not, List, pos, ◌-ℤ◌, ◌≤ℤ◌}
 use Rattle.flow.specs.Net.{Arc, Net, Shaped}
 use Rattle.flow.specs.Flows.{sum_of, delivered, IsFlow}
 use Rattle.flow.specs.Changes.{Alike}

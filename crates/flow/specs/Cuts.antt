@@ -1,5 +1,5 @@
 -- Cuts: the junctions parted into a near side with the intake and a far side with the outfall. The bottleneck.
-use Rattle.std.specs.Prelude.{◌≡◌, ℕ, ◌<◌, ◌≤◌, Bool, cond, not, ◌&&◌, ◌↔◌, IsTrue, IsFalse, List, ℤ, pos, ◌≤ℤ◌}
+use Rattle.std.specs.Prelude.{◌≡◌, ℕ, ◌<◌, ◌≤◌, Bool, cond, not, ◌&&◌, ◌↔◌, IsTrue, IsFalse, List, pos, ◌≤ℤ◌}
 use Rattle.flow.specs.Net.{Arc, Net}
 use Rattle.flow.specs.Flows.{sum_of, delivered, IsFlow}
 use Rattle.flow.specs.Changes.{Alike}

@@ -1,5 +1,5 @@
 -- What is promised of a network that was commissioned, was dry at first, and has been treated by calls alone since.
-use Rattle.std.specs.Prelude.{◌≡◌, ℕ, ◌-◌, ◌*◌, ◌<◌, ◌≤◌, IsTrue, List, ◌∷◌, ◌++◌, length, All, ℤ, pos, ◌≤ℤ◌}
+use Rattle.std.specs.Prelude.{◌≡◌, ℕ, ◌-◌, ◌*◌, ◌<◌, ◌≤◌, IsTrue, List, ◌∷◌, ◌++◌, length, All, pos, ◌≤ℤ◌}
 use Rattle.flow.specs.Net.{Net}
 use Rattle.flow.specs.Flows.{delivered, IsFlow}
 use Rattle.flow.specs.Changes.{Alike}

@@ -1,5 +1,5 @@
 -- Laws about routes, about pushing them, and about the plain machine.
-use Rattle.std.specs.Prelude.{◌≡◌, ℕ, ◌-◌, ◌*◌, ◌<◌, ◌≤◌, ◌≢◌, ◌⊎◌, List, length, All, AllPairs, count_by, ℤ, pos, ◌+ℤ◌, ◌==◌}
+use Rattle.std.specs.Prelude.{◌≡◌, ℕ, ◌-◌, ◌*◌, ◌<◌, ◌≤◌, ◌≢◌, ◌⊎◌, List, length, All, AllPairs, count_by, pos, ◌+ℤ◌, ◌==◌}
 use Rattle.std.specs.List.Sorted.{IsNonDecreasingBy}
 use Rattle.flow.specs.Net.{Net, Shaped, Sound, arc_at}
 use Rattle.flow.specs.Steps.{along_reach}
