@@ -1,8 +1,8 @@
 -- What networks have in common that are alike but for what they carry.
-use Rattle.std.proofs.Common.{◌≡◌, ℕ, ◌≤◌, cond, List, map, set, length, sym, ap, ◌∙◌, subst, arith}
+use Rattle.std.proofs.Common.{◌≡◌, ℕ, ◌<◌, ◌≤◌, cond, List, map, set, length, sym, ap, ◌∙◌, subst, arith}
 use lib.ListN.{length-map}
 use Rattle.std.specs.List.{All}
-use Rattle.std.proofs.lemmas.List.{get_or-map, map-set, set-get_or}
+use Rattle.std.proofs.lemmas.List.{get_or-map, map-set, set-get_or, ext_get_or}
 use Rattle.std.proofs.lemmas.List.Elements.{All-map}
 use Rattle.flow.specs.Bounds.{highest_limit}
 use Rattle.flow.specs.Net.{Arc, Net, no_arc, arc_at, Joined, Shaped}
@@ -10,6 +10,7 @@ use Rattle.flow.specs.Steps.{along_reach, goes_back, begins_at, finishes_at, beg
 use Rattle.flow.specs.Flows.{sum_of}
 use Rattle.flow.specs.Changes.{carrying, drained, Alike}
 use Rattle.flow.specs.Cuts.{Side, IsCut, crosses, limit_across, cut_sum, crossing_count}
+use Rattle.flow.specs.Laws.{SameScheme, AlikeMeans}
 use Rattle.flow.proofs.Sums.{sum_of-map}
 use Rattle.flow.proofs.Changing.{drained_at}
 
@@ -94,3 +95,45 @@ IsCut-alike near g h a c = record {
   intake_near = ap (λ (x : Net). near x.intake) (sym a) ∙ c.intake_near;
   outfall_far = ap (λ (x : Net). near x.outfall) (sym a) ∙ c.outfall_far;
 }
+
+-- networks are alike when they agree number by number
+same_scheme : (g h : Net) → Alike g h → SameScheme g h
+same_scheme g h a = record {
+  junctions = junctions-alike g h a;
+  intake = ap (λ (x : Net). x.intake) a;
+  outfall = ap (λ (x : Net). x.outfall) a;
+  count = length-alike g.reaches h.reaches (bare-alike g h a);
+  tails = λ k low. ap (λ (r : Arc). r.tail) (arc-alike g.reaches h.reaches (bare-alike g h a) k);
+  heads = λ k low. ap (λ (r : Arc). r.head) (arc-alike g.reaches h.reaches (bare-alike g h a) k);
+  limits = λ k low. ap (λ (r : Arc). r.limit) (arc-alike g.reaches h.reaches (bare-alike g h a) k);
+}
+
+abbrev dry_arc : ℕ → ℕ → ℕ → Arc
+dry_arc t h l = record { tail = t; head = h; limit = l; carried = 0 }
+
+dry-same : (r q : Arc) → r.tail ≡ q.tail → r.head ≡ q.head → r.limit ≡ q.limit → carrying 0 r ≡ carrying 0 q
+dry-same r q tails heads limits =
+    ap (λ (x : ℕ). dry_arc x r.head r.limit) tails ∙ ap (λ (x : ℕ). dry_arc q.tail x r.limit) heads
+    ∙ ap (dry_arc q.tail q.head) limits
+
+abbrev net : ℕ → ℕ → ℕ → List Arc → Net
+net n i o rs = record { junctions = n; intake = i; outfall = o; reaches = rs }
+
+same_alike : (g h : Net) → SameScheme g h → Alike g h
+same_alike g h s =
+    ap (λ (x : ℕ). net x g.intake g.outfall (bare g.reaches)) s.junctions
+    ∙ ap (λ (x : ℕ). net h.junctions x g.outfall (bare g.reaches)) s.intake
+    ∙ ap (λ (x : ℕ). net h.junctions h.intake x (bare g.reaches)) s.outfall
+    ∙ ap (net h.junctions h.intake h.outfall) (ext_get_or no_arc (bare g.reaches) (bare h.reaches) as_long each)
+  where
+    as_long : length (bare g.reaches) ≡ length (bare h.reaches)
+    as_long = length-map g.reaches (carrying 0) ∙ s.count ∙ sym (length-map h.reaches (carrying 0))
+
+    each : (k : ℕ) → k < length (bare g.reaches) → arc_at (bare g.reaches) k ≡ arc_at (bare h.reaches) k
+    each k low =
+        let here : k < length g.reaches = omega (arith, length-map g.reaches (carrying 0)) in
+        let same = dry-same (arc_at g.reaches k) (arc_at h.reaches k) (s.tails k here) (s.heads k here) (s.limits k here) in
+        drained_at g.reaches k ∙ same ∙ sym (drained_at h.reaches k)
+
+pub alike_means : AlikeMeans
+alike_means g h = (same_scheme g h, same_alike g h)

@@ -1,10 +1,10 @@
 -- Laws about networks, each proved and named in the contract of a function of this crate.
-use Rattle.std.specs.Prelude.{◌≡◌, ℕ, ◌+◌, ◌*◌, ◌<◌, ◌≤◌, ◌≢◌, List, length, pos}
+use Rattle.std.specs.Prelude.{◌≡◌, ℕ, ◌+◌, ◌*◌, ◌<◌, ◌≤◌, ◌≢◌, ◌↔◌, List, length, pos}
 use Rattle.flow.specs.Bounds.{most_reaches, highest_limit}
 use Rattle.flow.specs.Net.{Arc, Net, Sound, arc_at}
 use Rattle.flow.specs.Steps.{begins, finishes, headroom}
 use Rattle.flow.specs.Flows.{leaving, entering, delivered}
-use Rattle.flow.specs.Changes.{carrying, reach_changed, recarried, relimited, drained}
+use Rattle.flow.specs.Changes.{carrying, reach_changed, recarried, relimited, drained, Alike}
 
 -- a network stays sound when a reach is set to carry no more than its limit, when a limit is set to no less than is
 -- carried and no more than a reach may have, and when all is drained
@@ -39,3 +39,17 @@ pub record TwoSteps : Type 0 where
 abbrev pub AmountsBounded : Type 0
 AmountsBounded = (g : Net) (v : ℕ) → Sound g →
     (leaving v g.reaches ≤ highest_limit * most_reaches) × (entering v g.reaches ≤ highest_limit * most_reaches)
+
+-- two networks are alike but for what they carry exactly when they agree in junctions, intake and outfall, and reach by
+-- reach in tail, head and limit
+pub record SameScheme (g h : Net) : Type 0 where
+  pub junctions : g.junctions ≡ h.junctions
+  pub intake : g.intake ≡ h.intake
+  pub outfall : g.outfall ≡ h.outfall
+  pub count : length g.reaches ≡ length h.reaches
+  pub tails : (k : ℕ) → k < length g.reaches → (arc_at g.reaches k).tail ≡ (arc_at h.reaches k).tail
+  pub heads : (k : ℕ) → k < length g.reaches → (arc_at g.reaches k).head ≡ (arc_at h.reaches k).head
+  pub limits : (k : ℕ) → k < length g.reaches → (arc_at g.reaches k).limit ≡ (arc_at h.reaches k).limit
+
+abbrev pub AlikeMeans : Type 0
+AlikeMeans = (g h : Net) → Alike g h ↔ SameScheme g h

@@ -2,7 +2,7 @@
 // each function here is proved to meet a contract that is one law.
 #![tactic(auto)]
 
-ghost use Rattle.flow.specs.Laws.{KeepsSound, OneChanged, DrainedIsDry, TwoSteps, AmountsBounded};
+ghost use Rattle.flow.specs.Laws.{KeepsSound, OneChanged, DrainedIsDry, TwoSteps, AmountsBounded, AlikeMeans};
 ghost use Rattle.flow.specs.RouteLaws.{RouteLaws, PushLaws, RunsBounded, MachineLaws};
 ghost use Rattle.flow.specs.CutLaws.{CutLaws};
 ghost use Rattle.flow.specs.LabelLaws.{LabelLaws};
@@ -41,6 +41,13 @@ pub fn two_steps_stands() -> u8
 // No sum of carried amounts at a junction leaves 32 bits.
 pub fn amounts_bounded_stands() -> u8
     ensures { AmountsBounded }
+{
+    0
+}
+
+// Networks are alike but for what they carry when they agree in all else, number by number.
+pub fn alike_stands() -> u8
+    ensures { AlikeMeans }
 {
     0
 }
