@@ -53,21 +53,21 @@ pub fn alike_stands() -> u8
 }
 
 // There is one first shortest route, or none; a shortest route goes along no reach twice.
-pub fn routes_stand() -> u8
+pub fn first_route_stands() -> u8
     ensures { RouteLaws }
 {
     0
 }
 
 // A shortest route that is pushed adds the least headroom on it; draining and accepted limits leave a flow.
-pub fn pushes_stand() -> u8
+pub fn pushing_stands() -> u8
     ensures { PushLaws }
 {
     0
 }
 
 // Routes pushed one after another never get shorter, and are at most m × (n − 1).
-pub fn runs_bounded_stand() -> u8
+pub fn run_bound_stands() -> u8
     ensures { RunsBounded }
 {
     0
@@ -81,21 +81,21 @@ pub fn machine_stands() -> u8
 }
 
 // What a flow delivers, cuts, and the bottleneck of a network in which no route exists.
-pub fn cuts_stand() -> u8
+pub fn bottleneck_stands() -> u8
     ensures { CutLaws }
 {
     0
 }
 
 // Labels bound walks, lead to the first shortest route, and last.
-pub fn labels_stand() -> u8
+pub fn labelling_stands() -> u8
     ensures { LabelLaws }
 {
     0
 }
 
 // A settling has one answer; a history goes on call by call.
-pub fn histories_stand() -> u8
+pub fn history_stands() -> u8
     ensures { HistoryLaws }
 {
     0
@@ -109,7 +109,7 @@ pub fn promise_stands() -> u8
 }
 
 // The worked cases.
-pub fn worked_cases_hold() -> u8
+pub fn each_case_stands() -> u8
     ensures { WorkedCases }
 {
     0

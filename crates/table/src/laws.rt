@@ -2,7 +2,7 @@
 ghost use Rattle.table.specs.Edges.{EdgeCases};
 
 // What the calls answer at the edges of the bounds.
-pub fn edges_stand() -> u8
+pub fn each_edge_stands() -> u8
     ensures { EdgeCases }
 {
     0

@@ -1,5 +1,5 @@
 use Rattle.flow.proofs.Promising.{history_laws}
-use Rattle.flow.proofs.histories_stand.Goals as goal
+use Rattle.flow.proofs.history_stands.Goals as goal
 
 pub returns : goal.returns
 returns c = history_laws

@@ -1,5 +1,5 @@
 use Rattle.flow.proofs.Lawful.{push_laws}
-use Rattle.flow.proofs.pushes_stand.Goals as goal
+use Rattle.flow.proofs.pushing_stands.Goals as goal
 
 pub returns : goal.returns
 returns c = push_laws

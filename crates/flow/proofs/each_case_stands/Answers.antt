@@ -1,5 +1,5 @@
 use Rattle.flow.proofs.Checking.{worked_cases}
-use Rattle.flow.proofs.worked_cases_hold.Goals as goal
+use Rattle.flow.proofs.each_case_stands.Goals as goal
 
 pub returns : goal.returns
 returns c = worked_cases
