@@ -1,5 +1,5 @@
 -- The worked cases, by tests that compute.
-use Rattle.std.proofs.Common.{◌≡◌, ℕ, zero, suc, ◌+◌, ◌*◌, ◌<◌, Bool, true, false, not, ◌&&◌, ◌||◌, List, [], ◌∷◌, length, ◌==◌, get_or, refl, sym, ◌∙◌, inl, inr, ⊎_elim, arith}
+use Rattle.std.proofs.Common.{◌≡◌, ℕ, zero, suc, ◌+◌, ◌*◌, ◌<◌, ◌≤◌, ◌≢◌, Bool, true, false, not, ◌&&◌, ◌||◌, List, [], ◌∷◌, length, ◌==◌, get_or, pos, refl, sym, ◌∙◌, inl, inr, ⊎_elim, arith}
 use Rattle.std.specs.Prelude.{◌↔◌, IsTrue, nat_lt, nat_le, bytes_eq}
 use Rattle.std.specs.Cmp.Lexicographic.{bytes_decides}
 use Rattle.std.specs.List.{AllByRecursion}
@@ -7,15 +7,16 @@ use Rattle.std.proofs.lemmas.List.Elements.{All-from_recursion}
 use Rattle.std.proofs.lemmas.Bool.{true≢false, both_ways, and_parts, or_cases, not-true, cases_Bool, ltb-true, lt-ltb, leb-true, eqb-true}
 use Rattle.std.proofs.lemmas.Bool.Decides.{nat_tests, Decides-below_and}
 use Rattle.std.proofs.lemmas.Int.{ints}
-use Rattle.flow.specs.Net.{Arc, Net}
+use Rattle.flow.specs.Bounds.{highest_limit}
+use Rattle.flow.specs.Net.{Arc, Net, Joined}
 use Rattle.flow.specs.Steps.{begins, finishes, headroom, IsOpen}
 use Rattle.flow.specs.Flows.{leaving, entering}
 use Rattle.flow.specs.Routes.{IsWalk, Finished, Reached, GoesFirst, IsFirst}
 use Rattle.flow.specs.Pushes.{pushed, pushed_all, EachPushed, litres_of}
 use Rattle.flow.specs.Cuts.{IsBottleneck}
 use Rattle.flow.specs.Labels.{Labels, IsAdmissible, IsFirstAdmissible}
-use Rattle.flow.specs.Histories.{marked}
-use Rattle.flow.specs.Cases.{Case, amounts_of, Holds, worked, WorkedCases}
+use Rattle.flow.specs.Histories.{Outcome, refusal, bottleneck, tally, marked, IsSettling, IsNamed, Commissioned, IsIdle}
+use Rattle.flow.specs.Cases.{Case, amounts_of, Holds, dry, five, five_settled, worked, WorkedCases, WorkedHistory}
 use Rattle.flow.proofs.Walks.{open_in}
 use Rattle.flow.proofs.Besting.{Closed, near_along}
 use Rattle.flow.proofs.Order.{goes_first, goes_first-decides}
@@ -279,12 +280,69 @@ after_two = [] ∷ (0 ∷ []) ∷ (0 ∷ 4 ∷ []) ∷ (0 ∷ 4 ∷ 8 ∷ []) �
 abbrev shown_worked : List Shown
 shown_worked =
     record { labels = labels_five; walks = [] }
-    ∷ record { labels = []; walks = at_first }
-    ∷ record { labels = labels_five; walks = after_two }
     ∷ record { labels = labels_five; walks = [] }
+    ∷ record { labels = labels_five; walks = after_two }
+    ∷ record { labels = []; walks = at_first }
     ∷ record { labels = labels_seven; walks = [] }
     ∷ record { labels = []; walks = [] }
     ∷ []
 
 pub worked_cases : WorkedCases
 worked_cases = All-from_recursion Holds worked (table_from worked shown_worked refl)
+
+-- the calls on the network of five reaches
+joined_five : (from to most : ℕ) → from < 4 → to < 4 → from ≢ to → Joined 4 (dry from to most)
+joined_five from to most low high differ = (low, high, differ)
+
+commissioned_five : Commissioned five
+commissioned_five = record {
+  shaped = record {
+    two = omega arith;
+    few = omega arith;
+    listed = omega arith;
+    intake_in = omega arith;
+    outfall_in = omega arith;
+    ends_differ = omega arith;
+    joined = All-from_recursion (Joined 4) five.reaches (
+      joined_five 0 1 3 (omega arith) (omega arith) (omega arith),
+      (
+        joined_five 0 2 2 (omega arith) (omega arith) (omega arith),
+        (
+          joined_five 1 2 1 (omega arith) (omega arith) (omega arith),
+          (joined_five 1 3 2 (omega arith) (omega arith) (omega arith), (joined_five 2 3 3 (omega arith) (omega arith) (omega arith), tt)),
+        ),
+      ),
+    );
+    limits = All-from_recursion (λ r. r.limit ≤ highest_limit) five.reaches
+        (omega arith, (omega arith, (omega arith, (omega arith, (omega arith, tt)))));
+  };
+  dry = All-from_recursion (λ r. r.carried ≡ 0) five.reaches (refl, (refl, (refl, (refl, (refl, tt)))));
+}
+
+pub worked_history : WorkedHistory
+worked_history = record {
+  commissioned = commissioned_five;
+  history = (settled, (tt, (named, (first.delivers, tt))));
+  stands = record {
+    before = [];
+    budget = 10;
+    routes = five_settled.routes;
+    answer = answer;
+    behind = refusal ∷ bottleneck five_settled.marks 5 2 ∷ tally (pos 5) ∷ [];
+    are = refl;
+    finished = refl;
+    idle = All-from_recursion IsIdle (refusal ∷ bottleneck five_settled.marks 5 2 ∷ tally (pos 5) ∷ []) (tt, (tt, (tt, tt)));
+  };
+}
+  where
+    first : Holds five_settled
+    first = worked_cases 0 five_settled (omega arith)
+
+    answer : Outcome
+    answer = record { routes = 3; litres = 5; finished = true }
+
+    settled : IsSettling five 10 five_settled.routes answer
+    settled = record { settles = first.settles; counts = refl; adds = sym first.litres; tells = first.finished }
+
+    named : IsNamed (pushed_all five_settled.routes five) five_settled.marks 5 2
+    named = record { finished = first.finished.0 refl; near = first.near; sums = refl; counts = refl }

@@ -5,7 +5,7 @@ use Rattle.flow.specs.Flows.{delivered}
 use Rattle.flow.specs.Routes.{Finished}
 use Rattle.flow.specs.Pushes.{least_headroom, pushed, pushed_all, litres_of, Settles}
 use Rattle.flow.specs.Cuts.{IsBottleneck}
-use Rattle.flow.specs.Histories.{marked}
+use Rattle.flow.specs.Histories.{Event, settling, refusal, bottleneck, tally, marked, IsHistory, Commissioned, StandsFinished}
 
 -- a network and a budget; the routes, the litres that each adds and all together, whether none is left, what is
 -- delivered, and the marks of the junctions that open steps then reach from the intake
@@ -57,51 +57,85 @@ seven = record {
 abbrev pub bare : Net
 bare = record { junctions = 2; intake = 0; outfall = 1; reaches = [] }
 
+-- settled with a budget of 10; with one of 3, which is just enough; of 2; and of 0
+abbrev pub five_settled : Case
+five_settled = record {
+  net = five;
+  budget = 10;
+  routes = (0 ∷ 6 ∷ []) ∷ (2 ∷ 8 ∷ []) ∷ (0 ∷ 4 ∷ 8 ∷ []) ∷ [];
+  amounts = 2 ∷ 2 ∷ 1 ∷ [];
+  litres = 5;
+  finished = true;
+  delivers = 5;
+  marks = 1 ∷ 0 ∷ 0 ∷ 0 ∷ [];
+}
+
+abbrev pub five_with_three : Case
+five_with_three = record five_settled { budget = 3 }
+
+abbrev pub five_with_two : Case
+five_with_two = record {
+  net = five;
+  budget = 2;
+  routes = (0 ∷ 6 ∷ []) ∷ (2 ∷ 8 ∷ []) ∷ [];
+  amounts = 2 ∷ 2 ∷ [];
+  litres = 4;
+  finished = false;
+  delivers = 4;
+  marks = 1 ∷ 1 ∷ 1 ∷ 1 ∷ [];
+}
+
+abbrev pub five_with_none : Case
+five_with_none = record {
+  net = five;
+  budget = 0;
+  routes = [];
+  amounts = [];
+  litres = 0;
+  finished = false;
+  delivers = 0;
+  marks = 1 ∷ 1 ∷ 1 ∷ 1 ∷ [];
+}
+
+abbrev pub seven_settled : Case
+seven_settled = record {
+  net = seven;
+  budget = 10;
+  routes = (0 ∷ 2 ∷ 4 ∷ []) ∷ (10 ∷ 12 ∷ 3 ∷ 6 ∷ 8 ∷ []) ∷ [];
+  amounts = 1 ∷ 1 ∷ [];
+  litres = 2;
+  finished = true;
+  delivers = 2;
+  marks = 1 ∷ 0 ∷ 0 ∷ 0 ∷ 0 ∷ 0 ∷ [];
+}
+
+abbrev pub bare_settled : Case
+bare_settled = record {
+  net = bare;
+  budget = 10;
+  routes = [];
+  amounts = [];
+  litres = 0;
+  finished = true;
+  delivers = 0;
+  marks = 1 ∷ 0 ∷ [];
+}
+
 abbrev pub worked : List Case
-worked =
-    record {
-      net = five;
-      budget = 10;
-      routes = (0 ∷ 6 ∷ []) ∷ (2 ∷ 8 ∷ []) ∷ (0 ∷ 4 ∷ 8 ∷ []) ∷ [];
-      amounts = 2 ∷ 2 ∷ 1 ∷ [];
-      litres = 5;
-      finished = true;
-      delivers = 5;
-      marks = 1 ∷ 0 ∷ 0 ∷ 0 ∷ [];
-    }
-    ∷ record { net = five; budget = 0; routes = []; amounts = []; litres = 0; finished = false; delivers = 0; marks = 1 ∷ 1 ∷ 1 ∷ 1 ∷ [] }
-    ∷ record {
-      net = five;
-      budget = 2;
-      routes = (0 ∷ 6 ∷ []) ∷ (2 ∷ 8 ∷ []) ∷ [];
-      amounts = 2 ∷ 2 ∷ [];
-      litres = 4;
-      finished = false;
-      delivers = 4;
-      marks = 1 ∷ 1 ∷ 1 ∷ 1 ∷ [];
-    }
-    ∷ record {
-      net = five;
-      budget = 3;
-      routes = (0 ∷ 6 ∷ []) ∷ (2 ∷ 8 ∷ []) ∷ (0 ∷ 4 ∷ 8 ∷ []) ∷ [];
-      amounts = 2 ∷ 2 ∷ 1 ∷ [];
-      litres = 5;
-      finished = true;
-      delivers = 5;
-      marks = 1 ∷ 0 ∷ 0 ∷ 0 ∷ [];
-    }
-    ∷ record {
-      net = seven;
-      budget = 10;
-      routes = (0 ∷ 2 ∷ 4 ∷ []) ∷ (10 ∷ 12 ∷ 3 ∷ 6 ∷ 8 ∷ []) ∷ [];
-      amounts = 1 ∷ 1 ∷ [];
-      litres = 2;
-      finished = true;
-      delivers = 2;
-      marks = 1 ∷ 0 ∷ 0 ∷ 0 ∷ 0 ∷ 0 ∷ [];
-    }
-    ∷ record { net = bare; budget = 10; routes = []; amounts = []; litres = 0; finished = true; delivers = 0; marks = 1 ∷ 0 ∷ [] }
-    ∷ []
+worked = five_settled ∷ five_with_three ∷ five_with_two ∷ five_with_none ∷ seven_settled ∷ bare_settled ∷ []
 
 abbrev pub WorkedCases : Type 0
 WorkedCases = All Holds worked
+
+-- calls on the network of five reaches: it is settled, a limit below what a reach carries is refused, and the bottleneck
+-- and a tally are asked for
+abbrev pub season : List Event
+season =
+    settling 10 five_settled.routes (record { routes = 3; litres = 5; finished = true })
+    ∷ refusal ∷ bottleneck five_settled.marks 5 2 ∷ tally (pos 5) ∷ []
+
+-- they are a history, behind which the network stands finished
+pub record WorkedHistory : Type 0 where
+  pub commissioned : Commissioned five
+  pub history : IsHistory season five
+  pub stands : StandsFinished season

@@ -8,7 +8,7 @@ ghost use Rattle.flow.specs.CutLaws.{CutLaws};
 ghost use Rattle.flow.specs.LabelLaws.{LabelLaws};
 ghost use Rattle.flow.specs.HistoryLaws.{HistoryLaws};
 ghost use Rattle.flow.specs.Promises.{PromiseKept};
-ghost use Rattle.flow.specs.Cases.{WorkedCases};
+ghost use Rattle.flow.specs.Cases.{WorkedCases, WorkedHistory};
 
 // Accepted changes and draining keep a network sound.
 pub fn keeps_sound_stands() -> u8
@@ -111,6 +111,13 @@ pub fn promise_stands() -> u8
 // The worked cases.
 pub fn each_case_stands() -> u8
     ensures { WorkedCases }
+{
+    0
+}
+
+// The calls of a worked history happen, and the network stands finished behind them.
+pub fn worked_history_stands() -> u8
+    ensures { WorkedHistory }
 {
     0
 }
