@@ -1,5 +1,5 @@
 -- The worked cases, by tests that compute.
-use Rattle.std.proofs.Common.{◌≡◌, ℕ, zero, suc, ◌+◌, ◌*◌, ◌<◌, ◌≤◌, ◌≢◌, Bool, true, false, not, ◌&&◌, ◌||◌, List, [], ◌∷◌, length, ◌==◌, get_or, pos, refl, sym, ◌∙◌, inl, inr, ⊎_elim, arith}
+use Rattle.std.proofs.Common.{◌≡◌, ℕ, zero, suc, ◌+◌, ◌*◌, ◌<◌, ◌≤◌, Bool, true, false, not, ◌&&◌, ◌||◌, List, [], ◌∷◌, length, ◌==◌, get_or, pos, refl, sym, ◌∙◌, inl, inr, ⊎_elim, arith}
 use Rattle.std.specs.Prelude.{◌↔◌, IsTrue, nat_lt, nat_le, bytes_eq}
 use Rattle.std.specs.Cmp.Lexicographic.{bytes_decides}
 use Rattle.std.specs.List.{AllByRecursion}
@@ -15,7 +15,7 @@ use Rattle.flow.specs.Routes.{IsWalk, Finished, Reached, GoesFirst, IsFirst}
 use Rattle.flow.specs.Pushes.{pushed, pushed_all, EachPushed, litres_of}
 use Rattle.flow.specs.Cuts.{IsBottleneck}
 use Rattle.flow.specs.Labels.{Labels, IsAdmissible, IsFirstAdmissible}
-use Rattle.flow.specs.Histories.{Outcome, refusal, bottleneck, tally, marked, IsSettling, IsNamed, Commissioned, IsIdle}
+use Rattle.flow.specs.Histories.{Outcome, Event, refusal, bottleneck, tally, marked, IsSettling, IsNamed, Commissioned, IsIdle}
 use Rattle.flow.specs.Cases.{Case, amounts_of, Holds, dry, five, five_settled, worked, WorkedCases, WorkedHistory}
 use Rattle.flow.proofs.Walks.{open_in}
 use Rattle.flow.proofs.Besting.{Closed, near_along}
@@ -291,9 +291,6 @@ pub worked_cases : WorkedCases
 worked_cases = All-from_recursion Holds worked (table_from worked shown_worked refl)
 
 -- the calls on the network of five reaches
-joined_five : (from to most : ℕ) → from < 4 → to < 4 → from ≢ to → Joined 4 (dry from to most)
-joined_five from to most low high differ = (low, high, differ)
-
 commissioned_five : Commissioned five
 commissioned_five = record {
   shaped = record {
@@ -303,16 +300,13 @@ commissioned_five = record {
     intake_in = omega arith;
     outfall_in = omega arith;
     ends_differ = omega arith;
-    joined = All-from_recursion (Joined 4) five.reaches (
-      joined_five 0 1 3 (omega arith) (omega arith) (omega arith),
-      (
-        joined_five 0 2 2 (omega arith) (omega arith) (omega arith),
-        (
-          joined_five 1 2 1 (omega arith) (omega arith) (omega arith),
-          (joined_five 1 3 2 (omega arith) (omega arith) (omega arith), (joined_five 2 3 3 (omega arith) (omega arith) (omega arith), tt)),
-        ),
-      ),
-    );
+    joined =
+        let a : Joined 4 (dry 0 1 3) = (omega arith, omega arith, omega arith) in
+        let b : Joined 4 (dry 0 2 2) = (omega arith, omega arith, omega arith) in
+        let c : Joined 4 (dry 1 2 1) = (omega arith, omega arith, omega arith) in
+        let d : Joined 4 (dry 1 3 2) = (omega arith, omega arith, omega arith) in
+        let e : Joined 4 (dry 2 3 3) = (omega arith, omega arith, omega arith) in
+        All-from_recursion (Joined 4) five.reaches (a, (b, (c, (d, (e, tt)))));
     limits = All-from_recursion (λ r. r.limit ≤ highest_limit) five.reaches
         (omega arith, (omega arith, (omega arith, (omega arith, (omega arith, tt)))));
   };
@@ -328,13 +322,16 @@ worked_history = record {
     budget = 10;
     routes = five_settled.routes;
     answer = answer;
-    behind = refusal ∷ bottleneck five_settled.marks 5 2 ∷ tally (pos 5) ∷ [];
+    behind = behind;
     are = refl;
     finished = refl;
-    idle = All-from_recursion IsIdle (refusal ∷ bottleneck five_settled.marks 5 2 ∷ tally (pos 5) ∷ []) (tt, (tt, (tt, tt)));
+    idle = All-from_recursion IsIdle behind (tt, (tt, (tt, tt)));
   };
 }
   where
+    behind : List Event
+    behind = refusal ∷ bottleneck five_settled.marks 5 2 ∷ tally (pos 5) ∷ []
+
     first : Holds five_settled
     first = worked_cases 0 five_settled (omega arith)
 
