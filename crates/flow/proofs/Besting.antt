@@ -1,5 +1,5 @@
 -- The bottleneck of a network in which no route exists is the best cut.
-use Rattle.std.proofs.Common.{◌≡◌, ℕ, ◌+◌, ◌-◌, ◌*◌, ◌<◌, ◌≤◌, Bool, true, false, List, [], ◌∷◌, ◌++◌, pos, refl, sym, ap, ◌∙◌, subst, ⊎_elim, arith}
+use Rattle.std.proofs.Common.{◌≡◌, ℕ, ◌+◌, ◌-◌, ◌*◌, ◌<◌, ◌≤◌, Bool, true, false, cond, List, [], ◌∷◌, ◌++◌, pos, refl, sym, ap, ◌∙◌, subst, ⊎_elim, arith}
 use Rattle.std.specs.List.{All}
 use Rattle.std.specs.Prelude.{◌≤ℤ◌, IsTrue}
 use Rattle.std.proofs.lemmas.List.Elements.{All-weaker, All-get_or, All-from_get_or}
@@ -8,12 +8,12 @@ use Rattle.std.proofs.lemmas.Bool.Decides.{same_from_decides}
 use Rattle.std.proofs.lemmas.Int.{ints}
 use Rattle.flow.specs.Net.{Arc, Net, no_arc, arc_at, Joined, Shaped}
 use Rattle.flow.specs.Steps.{along_reach, goes_back, arc_of, begins_at, finishes_at, headroom_at, begins, finishes, IsOpen}
-use Rattle.flow.specs.Flows.{delivered, IsFlow}
+use Rattle.flow.specs.Flows.{sum_of, delivered, IsFlow}
 use Rattle.flow.specs.Changes.{Alike}
 use Rattle.flow.specs.Routes.{IsWalk, Finished}
 use Rattle.flow.specs.Cuts.{Side, IsCut, crosses, limit_across, cut_sum, crossing_count, IsBottleneck, IsBest, Agree}
 use Rattle.flow.specs.CutLaws.{amount_across, carried_across, exchanged}
-use Rattle.flow.proofs.Sums.{sum_of-same, sum_of-zero, sum_of-tight, tick}
+use Rattle.flow.proofs.Sums.{sum_of-same, sum_of-zero, sum_of-tight}
 use Rattle.flow.proofs.Walks.{open_in, ends_in, headroom-forth, headroom-back, IsWalk-append}
 use Rattle.flow.proofs.Changing.{two_steps}
 use Rattle.flow.proofs.Likeness.{bare-alike, Shaped-alike, junctions-alike, cut_sum-alike, crossing_count-alike, IsCut-alike}
@@ -133,17 +133,26 @@ module _ (g : Net) (near : Side) (shaped : Shaped g) (flow : IsFlow g) (finished
     nearest = bottleneck_nearest;
   }
 
--- two cuts that agree at every junction are crossed by as many reaches
-crossing_count-same : (near other : Side) (n : ℕ) (rs : List Arc) → All (Joined n) rs →
-    ((v : ℕ) → v < n → near v ≡ other v) → crossing_count near rs ≡ crossing_count other rs
-crossing_count-same near other n rs joined same = sum_of-same _ _ rs
-    (All-weaker (Joined n) (λ r. tick (crosses near r) ≡ tick (crosses other r)) each rs joined)
-  where
-    each : (r : Arc) → Joined n r → tick (crosses near r) ≡ tick (crosses other r)
-    each r j =
-        let tails : near r.tail ≡ other r.tail = same r.tail j.0 in
-        let heads : near r.head ≡ other r.head = same r.head j.1 in
-        cc
+-- two sides that agree at every junction are crossed by the same reaches, so what these add up to is the same
+crossing-same : (near other : Side) (n : ℕ) (r : Arc) → Joined n r → ((v : ℕ) → v < n → near v ≡ other v) →
+    crosses near r ≡ crosses other r
+crossing-same near other n r j same =
+    let tails : near r.tail ≡ other r.tail = same r.tail j.0 in
+    let heads : near r.head ≡ other r.head = same r.head j.1 in
+    cc
+
+module _ (near other : Side) (n : ℕ) (rs : List Arc) (joined : All (Joined n) rs)
+    (same : (v : ℕ) → v < n → near v ≡ other v) where
+  crossing_sum-same : (f : Bool → Arc → ℕ) → sum_of (λ r. f (crosses near r) r) rs ≡ sum_of (λ r. f (crosses other r) r) rs
+  crossing_sum-same f = sum_of-same _ _ rs
+      (All-weaker (Joined n) (λ r. f (crosses near r) r ≡ f (crosses other r) r)
+      (λ r j. ap (λ (b : Bool). f b r) (crossing-same near other n r j same)) rs joined)
+
+  pub cut_sum-same : cut_sum near rs ≡ cut_sum other rs
+  cut_sum-same = crossing_sum-same (λ b r. cond b r.limit 0)
+
+  pub crossing_count-same : crossing_count near rs ≡ crossing_count other rs
+  crossing_count-same = crossing_sum-same (λ b r. cond b 1 0)
 
 -- two finished networks that are alike
 module _ (g h : Net) (near other : Side) (a : Alike g h) (flow : IsFlow g) (flow' : IsFlow h) (best : IsBest g near)

@@ -15,7 +15,7 @@ use Rattle.flow.specs.Routes.{IsWalk, Finished, Reached, GoesFirst, IsFirst}
 use Rattle.flow.specs.Pushes.{pushed, pushed_all, EachPushed, litres_of}
 use Rattle.flow.specs.Cuts.{IsBottleneck}
 use Rattle.flow.specs.Labels.{Labels, IsAdmissible, IsFirstAdmissible}
-use Rattle.flow.specs.Histories.{Outcome, Event, refusal, bottleneck, tally, marked, IsSettling, IsNamed, Commissioned, IsIdle}
+use Rattle.flow.specs.Histories.{Outcome, Event, refusal, bottleneck, tally, marked, IsSettling, IsMarked, CommissionedDry, IsIdle}
 use Rattle.flow.specs.Cases.{Case, amounts_of, Holds, dry, five, five_settled, worked, WorkedCases, WorkedHistory}
 use Rattle.flow.proofs.Walks.{open_in}
 use Rattle.flow.proofs.Besting.{Closed, near_along}
@@ -183,6 +183,11 @@ module _ (g : Net) (walks : List (List ℕ)) (marks : List ℕ) where
       near : Reached g v → marked marks v ≡ true
       near r = near_along (marked marks) g.reaches closed g.intake r.0 v r.1 start.0
 
+-- a test that the first n marks are 0 or 1
+bits_from : (n : ℕ) (marks : List ℕ) → all_below (λ v. nat_le (get_or marks v 0) 1) n ≡ true →
+    (v : ℕ) → v < n → get_or marks v 0 ≤ 1
+bits_from n marks pass v low = leb-true _ _ (all_below_at (λ u. nat_le (get_or marks u 0) 1) n pass v low)
+
 -- no route exists exactly where the outfall is not marked
 finished_from : (g : Net) (marks : List ℕ) → g.outfall < g.junctions → IsBottleneck g (marked marks) →
     IsTrue (not (marked marks g.outfall)) ↔ Finished g
@@ -291,7 +296,7 @@ pub worked_cases : WorkedCases
 worked_cases = All-from_recursion Holds worked (table_from worked shown_worked refl)
 
 -- the calls on the network of five reaches
-commissioned_five : Commissioned five
+commissioned_five : CommissionedDry five
 commissioned_five = record {
   shaped = record {
     two = omega arith;
@@ -322,15 +327,15 @@ worked_history = record {
     budget = 10;
     routes = five_settled.routes;
     answer = answer;
-    behind = behind;
+    later = later;
     are = refl;
     finished = refl;
-    idle = All-from_recursion IsIdle behind (tt, (tt, (tt, tt)));
+    idle = All-from_recursion IsIdle later (tt, (tt, (tt, tt)));
   };
 }
   where
-    behind : List Event
-    behind = refusal ∷ bottleneck five_settled.marks 5 2 ∷ tally (pos 5) ∷ []
+    later : List Event
+    later = refusal ∷ bottleneck five_settled.marks 5 2 ∷ tally (pos 5) ∷ []
 
     first : Holds five_settled
     first = worked_cases 0 five_settled (omega arith)
@@ -341,5 +346,15 @@ worked_history = record {
     settled : IsSettling five 10 five_settled.routes answer
     settled = record { settles = first.settles; counts = refl; adds = sym first.litres; tells = first.finished }
 
-    named : IsNamed (pushed_all five_settled.routes five) five_settled.marks 5 2
-    named = record { finished = first.finished.0 refl; near = first.near; sums = refl; counts = refl }
+    bits : (v : ℕ) → v < 4 → get_or five_settled.marks v 0 ≤ 1
+    bits = bits_from 4 five_settled.marks refl
+
+    named : IsMarked (pushed_all five_settled.routes five) five_settled.marks 5 2
+    named = record {
+      finished = first.finished.0 refl;
+      long = omega arith;
+      bits = bits;
+      near = first.near;
+      sums = refl;
+      counts = refl;
+    }

@@ -75,7 +75,7 @@ far_le : (near : Bool) → cond near 0 1 ≤ 1
 far_le true = omega arith
 far_le false = omega arith
 
-distance_le : (rs : List Arc) (to m v : ℕ) → distance rs to m v ≤ m
+pub distance_le : (rs : List Arc) (to m v : ℕ) → distance rs to m v ≤ m
 distance_le rs to m v =
     let each = sum_below-le (far rs to v) (λ k. 1) m (λ k low. far_le (is_near rs to k v)) in
     omega (arith, sum_below-const 1 m)

@@ -15,7 +15,7 @@ use Rattle.flow.proofs.Walks.{open_in, ends_in}
 use Rattle.flow.proofs.Order.{FirstBelow, first_below}
 use Rattle.flow.proofs.Labelling.{labels_bound}
 use Rattle.flow.proofs.Firsts.{first_from_labels}
-use Rattle.flow.proofs.Distances.{distance, walk_within, distance_labels, distance_below}
+use Rattle.flow.proofs.Distances.{distance, distance_le, walk_within, distance_labels, distance_below}
 
 -- every network has a bottleneck: the junctions that are fewer than n steps from the intake
 pub bottleneck_found : (g : Net) → Shaped g → (near : Side) × IsBottleneck g near
@@ -30,16 +30,21 @@ bottleneck_found g shaped = (λ v. nat_lt (away v) g.junctions, λ v low. (reach
     near : (v : ℕ) → Reached g v → nat_lt (away v) g.junctions ≡ true
     near v r = lt-ltb _ _ (distance_below g shaped.joined g.intake v r.0 shaped.intake_in r.1)
 
--- labels of n or more at the intake: no route
+-- from a junction labelled n or more no walk leads to the outfall
+pub no_walk : (g : Net) (label : ℕ → ℕ) (v : ℕ) → Shaped g → Labels g label → v < g.junctions → g.junctions ≤ label v →
+    (ss : List ℕ) → ¬ IsWalk g.reaches v ss g.outfall
+no_walk g label v shaped h low high ss w =
+    let below = distance_below g shaped.joined v g.outfall ss low w in
+    let x = walk_within g.reaches g.outfall g.junctions v below in
+    omega (arith, labels_bound g label h v x.steps g.outfall x.walk, h.outfall, x.short)
+
 pub high_finished : (g : Net) (label : ℕ → ℕ) → Shaped g → Labels g label → g.junctions ≤ label g.intake → Finished g
-high_finished g label shaped h high ss r =
-    let below = distance_below g shaped.joined g.intake g.outfall ss shaped.intake_in r in
-    let x = walk_within g.reaches g.outfall g.junctions g.intake below in
-    omega (arith, labels_bound g label h g.intake x.steps g.outfall x.walk, h.outfall, x.short)
+high_finished g label shaped h high = no_walk g label g.intake shaped h shaped.intake_in high
 
 -- distances up to n are exact labels
-pub exact_found : (g : Net) → Shaped g → (label : ℕ → ℕ) × ExactLabels g label
-exact_found g shaped = (label, record { labels = distance_labels g g.junctions; next = next })
+pub exact_found : (g : Net) → Shaped g → (label : ℕ → ℕ) × ExactLabels g label × ((v : ℕ) → label v ≤ g.junctions)
+exact_found g shaped =
+    (label, record { labels = distance_labels g g.junctions; next = next }, distance_le g.reaches g.outfall g.junctions)
   where
     label : ℕ → ℕ
     label = distance g.reaches g.outfall g.junctions
@@ -133,8 +138,8 @@ exact_walk g label v shaped exact = walk_from_exact g label shaped exact (label 
 pub first_found : (g : Net) → Shaped g → ((ss : List ℕ) × IsFirst g ss) ⊎ Finished g
 first_found g shaped = either (exact_found g shaped)
   where
-    either : (label : ℕ → ℕ) × ExactLabels g label → ((ss : List ℕ) × IsFirst g ss) ⊎ Finished g
-    either (label, exact) = ⊎_elim
+    either : (label : ℕ → ℕ) × ExactLabels g label × ((v : ℕ) → label v ≤ g.junctions) → ((ss : List ℕ) × IsFirst g ss) ⊎ Finished g
+    either (label, exact, most) = ⊎_elim
         (λ (low : label g.intake < g.junctions).
         let x = exact_walk g label g.intake shaped exact shaped.intake_in low in
         let firsts = All-from_recursion (IsFirstAdmissible label g.reaches) x.steps x.firsts in

@@ -9,7 +9,7 @@ use Rattle.flow.specs.Flows.{sum_of, out_of, into, leaving, entering, IsFlow}
 use Rattle.flow.specs.Changes.{carrying, limiting, relimited, drained}
 use Rattle.flow.specs.Routes.{Finished, IsFirst}
 use Rattle.flow.specs.Pushes.{pushed_all, EachPushed}
-use Rattle.flow.specs.Histories.{Event, settling, limit_change, draining, after_call, after_calls, Happens, IsHistory, Commissioned, Disturbs, IsIdle, StandsFinished, routes_counted}
+use Rattle.flow.specs.Histories.{Event, settling, limit_change, draining, after_call, after_calls, Happens, IsHistory, CommissionedDry, Disturbs, IsIdle, StandsFinished, routes_counted}
 use Rattle.flow.proofs.Sums.{sum_of-none, sum_of-zero, sum_of-set_same, out_of-le, into-le}
 use Rattle.flow.proofs.Changing.{keeps_sound}
 use Rattle.flow.proofs.Likeness.{bare-alike, length-alike, junctions-alike, Shaped-alike}
@@ -39,7 +39,7 @@ limited_flow g k q flow fits = record {
 }
 
 -- a network that carries nothing carries a flow
-pub dry_flow : (g : Net) → Commissioned g → IsFlow g
+pub dry_flow : (g : Net) → CommissionedDry g → IsFlow g
 dry_flow g c = record {
   within = All-weaker (λ r. r.carried ≡ 0) (λ r. r.carried ≤ r.limit) (λ r dry. omega arith) g.reaches c.dry;
   balanced = λ v low a b. none (out_of v) (out_of-le v) ∙ sym (none (into v) (into-le v));
@@ -49,7 +49,7 @@ dry_flow g c = record {
     none f le = sum_of-zero f g.reaches
         (All-weaker (λ r. r.carried ≡ 0) (λ r. f r ≡ 0) (λ r dry. omega (arith, le r)) g.reaches c.dry)
 
--- histories one behind another
+-- histories one after another
 pub after_calls-append : (xs ys : List Event) (g : Net) → after_calls (xs ++ ys) g ≡ after_calls ys (after_calls xs g)
 after_calls-append [] ys g = refl
 after_calls-append (e ∷ xs) ys g = after_calls-append xs ys (after_call e g)
@@ -111,7 +111,7 @@ lasting_calls (e ∷ es) g shaped flow h =
       reaches = x.reaches ∙ y.reaches;
     }
 
-pub lasting : (es : List Event) (start : Net) → Commissioned start → IsHistory es start →
+pub lasting : (es : List Event) (start : Net) → CommissionedDry start → IsHistory es start →
     Lasting start (after_calls es start)
 lasting es start c h = lasting_calls es start c.shaped (dry_flow start c) h
 
@@ -133,10 +133,10 @@ pub stands_finished : (events : List Event) (start : Net) → IsHistory events s
 stands_finished events start h f =
     let e : Event = settling f.budget f.routes f.answer in
     let at : Net = after_calls f.before start in
-    let x = IsHistory-behind f.before (e ∷ f.behind) start (subst (λ es. IsHistory es start) f.are h) in
-    let leaves : after_calls events start ≡ after_calls f.behind (pushed_all f.routes at) =
-    ap (λ (es : List Event). after_calls es start) f.are ∙ after_calls-append f.before (e ∷ f.behind) start in
-    subst Finished (sym (leaves ∙ idle_calls f.behind (pushed_all f.routes at) f.idle)) (x.0.tells.0 f.finished)
+    let x = IsHistory-behind f.before (e ∷ f.later) start (subst (λ es. IsHistory es start) f.are h) in
+    let leaves : after_calls events start ≡ after_calls f.later (pushed_all f.routes at) =
+    ap (λ (es : List Event). after_calls es start) f.are ∙ after_calls-append f.before (e ∷ f.later) start in
+    subst Finished (sym (leaves ∙ idle_calls f.later (pushed_all f.routes at) f.idle)) (x.0.tells.0 f.finished)
 
 -- calls in a row with no accepted limit change and no draining among them push one run of first shortest routes
 pub record IsRun (g h : Net) (part : List Event) (routes : List (List ℕ)) : Type 0 where

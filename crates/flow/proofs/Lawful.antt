@@ -13,7 +13,7 @@ use Rattle.flow.proofs.Pushing.{Apart, raised, least_above_0, Sound-pushed}
 use Rattle.flow.proofs.Labelling.{descent_from_admissible, admissible_from_descent, labels_bound, labels_pushed, still_pushed, labels_relabelled, still_elsewhere}
 use Rattle.flow.proofs.Firsts.{first_unique, first_from_labels}
 use Rattle.flow.proofs.Distances.{shortest_length, shortest_labels}
-use Rattle.flow.proofs.Finding.{bottleneck_found, high_finished, exact_found, exact_walk, first_found}
+use Rattle.flow.proofs.Finding.{bottleneck_found, no_walk, high_finished, exact_found, exact_walk, first_found}
 use Rattle.flow.proofs.Running.{descent_along}
 use Rattle.flow.proofs.Machining.{shortest_apart, raised_all, settles_unique, settles_found, enough}
 use Rattle.flow.proofs.Lasting.{drained_flow, limited_flow}
@@ -63,7 +63,8 @@ cut_laws = record {
 pub label_laws : LabelLaws
 label_laws = record {
   bound = λ g label from ss to h w. labels_bound g label h from ss to w;
-  high = high_finished;
+  high = no_walk;
+  none = high_finished;
   first = first_from_labels;
   pushing = λ g label ss h r all.
       labels_pushed g label ss (descent_from_admissible label g.reaches g.intake ss g.outfall r all).falls h;

@@ -15,6 +15,7 @@ pub mod Running
 pub mod Machining
 pub mod Lasting
 pub mod Promising
+pub mod Answering
 pub mod Lawful
 pub mod Checking
 pub mod Fairness

@@ -1,25 +1,23 @@
 -- Every history of a network that was commissioned and dry keeps the promise.
-use Rattle.std.proofs.Common.{◌≡◌, ℕ, ◌-◌, ◌*◌, ◌≤◌, Bool, List, [], ◌∷◌, ◌++◌, length, pos, sym, ap, ◌∙◌, ap₂, subst, arith}
+use Rattle.std.proofs.Common.{◌≡◌, ℕ, ◌-◌, ◌*◌, ◌≤◌, List, ◌∷◌, ◌++◌, length, pos, sym, ap, ◌∙◌, ap₂, subst, arith}
 use Rattle.std.specs.List.{All}
-use Rattle.std.specs.Prelude.{IsTrue, ◌↔◌, ◌≤ℤ◌}
-use Rattle.std.proofs.lemmas.Bool.Decides.{same_from_decides}
+use Rattle.std.specs.Prelude.{◌≤ℤ◌}
 use Rattle.flow.specs.Net.{Net}
 use Rattle.flow.specs.Flows.{delivered, IsFlow}
 use Rattle.flow.specs.Changes.{Alike}
-use Rattle.flow.specs.Routes.{Finished, IsShortest, IsFirst}
-use Rattle.flow.specs.Pushes.{pushed_all, litres_of}
+use Rattle.flow.specs.Routes.{IsShortest, IsFirst}
+use Rattle.flow.specs.Pushes.{pushed_all}
 use Rattle.flow.specs.Cuts.{Side, IsBottleneck, IsBest, Agree}
-use Rattle.flow.specs.Histories.{Outcome, Event, settling, bottleneck, after_calls, IsSettling, marked, IsHistory, Commissioned, StandsFinished, routes_counted}
+use Rattle.flow.specs.Histories.{Outcome, Event, settling, bottleneck, after_calls, marked, IsHistory, CommissionedDry, StandsFinished, routes_counted}
 use Rattle.flow.specs.Promises.{PromiseKept}
-use Rattle.flow.specs.HistoryLaws.{HistoryLaws}
 use Rattle.flow.proofs.Besting.{best_cut, agreed}
 use Rattle.flow.proofs.Finding.{bottleneck_found}
 use Rattle.flow.proofs.Running.{runs_bounded}
-use Rattle.flow.proofs.Machining.{EachPushed-at, shortest_from_first, settles_unique}
-use Rattle.flow.proofs.Lasting.{after_calls-append, IsHistory-append, IsHistory-before, IsHistory-behind, Lasting, lasting, stands_finished, Calm, run_of}
+use Rattle.flow.proofs.Machining.{EachPushed-at, shortest_from_first}
+use Rattle.flow.proofs.Lasting.{IsHistory-before, IsHistory-behind, Lasting, lasting, stands_finished, Calm, run_of}
 
 -- the promise
-module _ (start : Net) (events : List Event) (commissioned : Commissioned start) (history : IsHistory events start) where
+module _ (start : Net) (events : List Event) (commissioned : CommissionedDry start) (history : IsHistory events start) where
   abbrev end : Net
   end = after_calls events start
 
@@ -72,8 +70,8 @@ module _ (start : Net) (events : List Event) (commissioned : Commissioned start)
   most f = let (near, is) = bottleneck_found end at_end.shaped in (best_at_end f near is).most
 
 -- two networks that stand finished
-same_for_all : (start : Net) (events : List Event) (c : Commissioned start) (h : IsHistory events start)
-    (f : StandsFinished events) (begun : Net) (calls : List Event) (c' : Commissioned begun) (h' : IsHistory calls begun)
+same_for_all : (start : Net) (events : List Event) (c : CommissionedDry start) (h : IsHistory events start)
+    (f : StandsFinished events) (begun : Net) (calls : List Event) (c' : CommissionedDry begun) (h' : IsHistory calls begun)
     (f' : StandsFinished calls) → Alike (after_calls events start) (after_calls calls begun) → (near other : Side) →
     IsBottleneck (after_calls events start) near → IsBottleneck (after_calls calls begun) other →
     Agree (after_calls events start) (after_calls calls begun) near other
@@ -87,48 +85,13 @@ pub promise_kept : PromiseKept
 promise_kept start events c h = record {
   flow = (lasting events start c h).flow;
   most = most start events c h;
-  named = bottleneck_found (after_calls events start) (lasting events start c h).shaped;
+  found = bottleneck_found (after_calls events start) (lasting events start c h).shaped;
   cut = λ f near is. (best_at_end start events c h f near is).cut;
+  tight = λ f near is. (best_at_end start events c h f near is).tight;
   least = λ f near is. (best_at_end start events c h f near is).least;
   nearest = λ f near is. (best_at_end start events c h f near is).nearest;
   same = same_for_all start events c h;
   bounded = counted start events c h;
   shortest = shortest start events c h;
   answered = answered start events c h;
-}
-
--- a settling has one answer
-abbrev outcome : ℕ → ℕ → Bool → Outcome
-outcome routes litres finished = record { routes = routes; litres = litres; finished = finished }
-
-one_settling : (g : Net) (budget : ℕ) (routes others : List (List ℕ)) (answer another : Outcome) →
-    IsSettling g budget routes answer → IsSettling g budget others another → (routes ≡ others) × (answer ≡ another)
-one_settling g budget routes others answer another p q = (same, all_same)
-  where
-    same : routes ≡ others
-    same = settles_unique g budget routes others p.settles q.settles
-
-    count : answer.routes ≡ another.routes
-    count = p.counts ∙ ap length same ∙ sym q.counts
-
-    litres : answer.litres ≡ another.litres
-    litres = p.adds ∙ ap (litres_of g) same ∙ sym q.adds
-
-    finished : answer.finished ≡ another.finished
-    finished =
-        let P : Type 0 = Finished (pushed_all others g) in
-        let here = subst (λ xs. IsTrue answer.finished ↔ Finished (pushed_all xs g)) same p.tells in
-        same_from_decides {P = P} answer.finished another.finished (here.0, here.1) (q.tells.0, q.tells.1)
-
-    all_same : answer ≡ another
-    all_same =
-        ap (λ (n : ℕ). outcome n answer.litres answer.finished) count
-        ∙ ap (λ (n : ℕ). outcome another.routes n answer.finished) litres
-        ∙ ap (outcome another.routes another.litres) finished
-
-pub history_laws : HistoryLaws
-history_laws = record {
-  settling = one_settling;
-  more = λ start events e h k. IsHistory-append events (e ∷ []) start h (k, tt);
-  then = λ start events e. after_calls-append events (e ∷ []) start;
 }

@@ -5,7 +5,7 @@ use Rattle.flow.specs.Flows.{delivered}
 use Rattle.flow.specs.Routes.{Finished}
 use Rattle.flow.specs.Pushes.{least_headroom, pushed, pushed_all, litres_of, Settles}
 use Rattle.flow.specs.Cuts.{IsBottleneck}
-use Rattle.flow.specs.Histories.{Event, settling, refusal, bottleneck, tally, marked, IsHistory, Commissioned, StandsFinished}
+use Rattle.flow.specs.Histories.{Event, settling, refusal, bottleneck, tally, marked, IsHistory, CommissionedDry, StandsFinished}
 
 -- a network and a budget; the routes, the litres that each adds and all together, whether none is left, what is
 -- delivered, and the marks of the junctions that open steps then reach from the intake
@@ -127,15 +127,14 @@ worked = five_settled ∷ five_with_three ∷ five_with_two ∷ five_with_none �
 abbrev pub WorkedCases : Type 0
 WorkedCases = All Holds worked
 
--- calls on the network of five reaches: it is settled, a limit below what a reach carries is refused, and the bottleneck
--- and a tally are asked for
-abbrev pub season : List Event
-season =
+-- calls on the network of five reaches: it is settled, some call is refused, and the bottleneck and a tally are asked for
+abbrev pub calls_on_five : List Event
+calls_on_five =
     settling 10 five_settled.routes (record { routes = 3; litres = 5; finished = true })
     ∷ refusal ∷ bottleneck five_settled.marks 5 2 ∷ tally (pos 5) ∷ []
 
--- they are a history, behind which the network stands finished
+-- they are a history, after which the network stands finished
 pub record WorkedHistory : Type 0 where
-  pub commissioned : Commissioned five
-  pub history : IsHistory season five
-  pub stands : StandsFinished season
+  pub commissioned : CommissionedDry five
+  pub history : IsHistory calls_on_five five
+  pub stands : StandsFinished calls_on_five

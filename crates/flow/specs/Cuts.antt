@@ -31,7 +31,7 @@ crossing_count near rs = sum_of (λ r. cond (crosses near r) 1 0) rs
 abbrev pub IsBottleneck : Net → Side → Type 0
 IsBottleneck g near = (v : ℕ) → v < g.junctions → IsTrue (near v) ↔ Reached g v
 
--- what a bottleneck is where no route exists and the network carries a flow
+-- a side is the best cut of a network: the least, and of the least ones the nearest to the intake
 pub record IsBest (g : Net) (near : Side) : Type 0 where
   pub cut : IsCut g near
   -- the network delivers its sum, and no other flow within the limits delivers more

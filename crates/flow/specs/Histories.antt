@@ -14,7 +14,8 @@ pub record Outcome : Type 0 where
   pub litres : ℕ
   pub finished : Bool
 
--- a call on a network, with what was handed in and what was answered
+-- A call on a network, with what was handed in and what was answered. Of a reading and of a refused call nothing more is
+-- said: they change nothing.
 pub data Event : Type 0 where
   -- a settling with a budget: the routes that it pushed, in their order, and its answer
   settling : (budget : ℕ) (routes : List (List ℕ)) (answer : Outcome) → Event
@@ -26,10 +27,10 @@ pub data Event : Type 0 where
   bottleneck : (marks : List ℕ) (sum crossing : ℕ) → Event
   -- size, a reach or a touch was asked for
   reading : Event
-  -- a call was refused
+  -- some call was refused
   refusal : Event
 
--- the network after a call, and after calls one behind another
+-- the network after a call, and after calls one after another
 abbrev pub after_call : Event → Net → Net
 after_call (settling budget routes answer) g = pushed_all routes g
 after_call (limit_change k q) g = relimited k q g
@@ -51,32 +52,35 @@ pub record IsSettling (g : Net) (budget : ℕ) (routes : List (List ℕ)) (answe
 abbrev pub marked : List ℕ → Side
 marked marks v = slice_index marks v == 1
 
--- a bottleneck is answered where no route exists: its near side is marked
-pub record IsNamed (g : Net) (marks : List ℕ) (sum crossing : ℕ) : Type 0 where
+-- a bottleneck is answered where no route exists: the first n marks are 1 for its near junctions and 0 for the others,
+-- and its sum and the number of crossing reaches are told
+pub record IsMarked (g : Net) (marks : List ℕ) (sum crossing : ℕ) : Type 0 where
   pub finished : Finished g
+  pub long : g.junctions ≤ length marks
+  pub bits : (v : ℕ) → v < g.junctions → slice_index marks v ≤ 1
   pub near : IsBottleneck g (marked marks)
   pub sums : sum ≡ cut_sum (marked marks) g.reaches
   pub counts : crossing ≡ crossing_count (marked marks) g.reaches
 
--- the call, made on a network, is accepted or refused as the event says, and answers what the event says
+-- the call, made on a network, does and answers what the event says
 abbrev pub Happens : Event → Net → Type 0
 Happens (settling budget routes answer) g = IsSettling g budget routes answer
 Happens (limit_change k q) g = (k < length g.reaches) × (q ≤ highest_setting) × ((arc_at g.reaches k).carried ≤ q)
 Happens (tally answer) g = answer ≡ delivered g
-Happens (bottleneck marks sum crossing) g = IsNamed g marks sum crossing
+Happens (bottleneck marks sum crossing) g = IsMarked g marks sum crossing
 Happens e g = ⊤
 
--- the calls happen one behind another, the first of them on the network
+-- the calls happen one after another, the first of them on the network
 abbrev pub IsHistory : List Event → Net → Type 0
 IsHistory [] g = ⊤
 IsHistory (e ∷ es) g = Happens e g × IsHistory es (after_call e g)
 
--- a network that was commissioned and carries nothing yet
-pub record Commissioned (g : Net) : Type 0 where
+-- a network that was commissioned and is dry: its shape is sound, and it carries nothing
+pub record CommissionedDry (g : Net) : Type 0 where
   pub shaped : Shaped g
   pub dry : All (λ r. r.carried ≡ 0) g.reaches
 
--- an accepted limit change or a draining, also where it sets what stood
+-- an accepted limit change or a draining, even one that sets what stood
 abbrev pub Disturbs : Event → Type 0
 Disturbs (limit_change k q) = ⊤
 Disturbs draining = ⊤
@@ -95,10 +99,10 @@ pub record StandsFinished (events : List Event) : Type 0 where
   pub budget : ℕ
   pub routes : List (List ℕ)
   pub answer : Outcome
-  pub behind : List Event
-  pub are : events ≡ before ++ settling budget routes answer ∷ behind
+  pub later : List Event
+  pub are : events ≡ before ++ settling budget routes answer ∷ later
   pub finished : IsTrue answer.finished
-  pub idle : All IsIdle behind
+  pub idle : All IsIdle later
 
 -- the routes that calls count: what their settlings answered, added up
 abbrev pub routes_of : Event → ℕ

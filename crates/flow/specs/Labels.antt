@@ -14,7 +14,7 @@ pub record IsAdmissible (label : ℕ → ℕ) (rs : List Arc) (s : ℕ) : Type 0
   pub opens : IsOpen rs s
   pub falls : label (begins rs s) ≡ label (finishes rs s) + 1
 
--- and of the admissible steps from the same junction none goes first
+-- and no admissible step from the same junction goes before it
 pub record IsFirstAdmissible (label : ℕ → ℕ) (rs : List Arc) (s : ℕ) : Type 0 where
   pub admissible : IsAdmissible label rs s
   pub first : (t : ℕ) → begins rs t ≡ begins rs s → IsAdmissible label rs t → ¬ GoesFirst t s
@@ -23,7 +23,8 @@ pub record IsFirstAdmissible (label : ℕ → ℕ) (rs : List Arc) (s : ℕ) : T
 abbrev pub relabelled : ℕ → ℕ → (ℕ → ℕ) → ℕ → ℕ
 relabelled v c label u = cond (u == v) c (label u)
 
--- exact labels: where a junction has a label below n, an admissible step goes on from it towards the outfall
+-- exact labels: each junction with a label below n, but the outfall, has an admissible step. What labels of n and more say
+-- is free
 pub record ExactLabels (g : Net) (label : ℕ → ℕ) : Type 0 where
   pub labels : Labels g label
   pub next : (v : ℕ) → v < g.junctions → v ≢ g.outfall → label v < g.junctions →

@@ -25,8 +25,8 @@ pub record DrainedIsDry : Type 0 where
   pub nothing : (g : Net) → delivered (drained g) ≡ pos 0
   pub each : (g : Net) (k : ℕ) → arc_at (drained g).reaches k ≡ carrying 0 (arc_at g.reaches k)
 
--- step 2k goes along reach k from its tail to its head, and step 2k + 1 goes the same way back; the two have headroom
--- for the limit of the reach, together
+-- step 2k goes along reach k from its tail to its head, and step 2k + 1 goes the same way back; their headrooms add up to
+-- the limit of the reach
 pub record TwoSteps : Type 0 where
   pub forth : (rs : List Arc) (k : ℕ) →
       (begins rs (2 * k) ≡ (arc_at rs k).tail) × (finishes rs (2 * k) ≡ (arc_at rs k).head)
@@ -35,7 +35,7 @@ pub record TwoSteps : Type 0 where
   pub fill : (g : Net) (k : ℕ) → Sound g →
       headroom g.reaches (2 * k) + headroom g.reaches (2 * k + 1) ≡ (arc_at g.reaches k).limit
 
--- what leaves and what enters a junction is at most the highest limit on every reach: 2,048,000,000
+-- what leaves and what enters a junction is at most the highest limit times the most reaches: 2,048,000,000
 abbrev pub AmountsBounded : Type 0
 AmountsBounded = (g : Net) (v : ℕ) → Sound g →
     (leaving v g.reaches ≤ highest_limit * most_reaches) × (entering v g.reaches ≤ highest_limit * most_reaches)

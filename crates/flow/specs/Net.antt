@@ -11,7 +11,8 @@ pub record Arc : Type 0 where
   pub limit : ℕ
   pub carried : ℕ
 
--- junctions are numbered from 0, reaches by their place in the list
+-- junctions are numbered from 0, reaches by their place in the list. In comments n is the number of junctions and m that of
+-- reaches
 pub record Net : Type 0 where
   pub junctions : ℕ
   pub intake : ℕ

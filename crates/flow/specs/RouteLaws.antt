@@ -39,8 +39,8 @@ pub record PushLaws : Type 0 where
   pub drain : (g : Net) → IsFlow (drained g)
   pub limit : (g : Net) (k q : ℕ) → IsFlow g → (arc_at g.reaches k).carried ≤ q → IsFlow (relimited k q g)
 
--- of routes that were pushed one after another: their lengths never fall, at most as many share a length as there are
--- reaches, the lengths lie from 1 to n − 1, and they are at most m × (n − 1)
+-- of routes pushed one after another, each a shortest one when it is pushed: their lengths never fall, at most as many
+-- share a length as there are reaches, lengths lie from 1 to n − 1, and there are at most m × (n − 1) routes
 pub record IsBounded (g : Net) (routes : List (List ℕ)) : Type 0 where
   pub rising : IsNonDecreasingBy length routes
   pub sharing : (l : ℕ) → count_by (λ ss. length ss == l) routes ≤ length g.reaches

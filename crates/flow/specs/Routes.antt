@@ -28,7 +28,8 @@ pub record IsShortest (g : Net) (ss : List ℕ) : Type 0 where
 abbrev pub GoesFirst : ℕ → ℕ → Type 0
 GoesFirst s t = s < t
 
--- at the first place where two lists of steps differ, the step of the one list goes first; or the lists are the same
+-- of two lists of steps of one length: at the first place where they differ the step of the first list goes first, or they
+-- are the same
 abbrev pub IsNoLater : List ℕ → List ℕ → Type 0
 IsNoLater [] ts = ⊤
 IsNoLater (s ∷ ss) [] = ⊥

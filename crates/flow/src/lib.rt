@@ -38,7 +38,7 @@ pub fn two_steps_stands() -> u8
     0
 }
 
-// No sum of carried amounts at a junction leaves 32 bits.
+// What leaves or enters a junction is at most 2,048,000,000.
 pub fn amounts_bounded_stands() -> u8
     ensures { AmountsBounded }
 {
@@ -66,7 +66,7 @@ pub fn pushing_stands() -> u8
     0
 }
 
-// Routes pushed one after another never get shorter, and are at most m × (n − 1).
+// Shortest routes pushed one after another never get shorter, and there are at most m × (n − 1) of them.
 pub fn run_bound_stands() -> u8
     ensures { RunsBounded }
 {
@@ -94,7 +94,7 @@ pub fn labelling_stands() -> u8
     0
 }
 
-// A settling has one answer; a history goes on call by call.
+// A settling has one answer, and so has the bottleneck; a history goes on call by call.
 pub fn history_stands() -> u8
     ensures { HistoryLaws }
 {
@@ -115,7 +115,7 @@ pub fn each_case_stands() -> u8
     0
 }
 
-// The calls of a worked history happen, and the network stands finished behind them.
+// The calls of a worked history happen, and the network stands finished after them.
 pub fn worked_history_stands() -> u8
     ensures { WorkedHistory }
 {

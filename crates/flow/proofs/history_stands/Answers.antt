@@ -1,4 +1,4 @@
-use Rattle.flow.proofs.Promising.{history_laws}
+use Rattle.flow.proofs.Answering.{history_laws}
 use Rattle.flow.proofs.history_stands.Goals as goal
 
 pub returns : goal.returns
