@@ -48,7 +48,8 @@ keeps_sound = record {
   limit = λ g k q s over under. sound_changed (limiting q) k g s (λ fair. (fair.0, over, under));
   drain = λ g s. resound g (map (carrying 0) g.reaches) s (length-map g.reaches (carrying 0))
       (All-map (FairArc g.junctions) (carrying 0) g.reaches
-      (All-weaker (FairArc g.junctions) (λ r. FairArc g.junctions (carrying 0 r)) (λ r h. (h.0, omega arith, h.2)) g.reaches (fair_all g s)));
+      (All-weaker (FairArc g.junctions) (λ r. FairArc g.junctions (carrying 0 r)) (λ r h. (h.0, omega arith, h.2)) g.reaches
+      (fair_all g s)));
 }
 
 pub one_changed : OneChanged
