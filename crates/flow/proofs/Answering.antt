@@ -11,7 +11,7 @@ use Rattle.flow.specs.Pushes.{pushed_all, litres_of}
 use Rattle.flow.specs.Cuts.{Side, cut_sum, crossing_count, IsBottleneck}
 use Rattle.flow.specs.Histories.{Outcome, IsSettling, marked, IsMarked}
 use Rattle.flow.specs.HistoryLaws.{HistoryLaws}
-use Rattle.flow.proofs.Sums.{tick}
+use Rattle.flow.proofs.Sums.{tick, tick-le}
 use Rattle.flow.proofs.Likeness.{Shaped-alike}
 use Rattle.flow.proofs.Besting.{cut_sum-same, crossing_count-same}
 use Rattle.flow.proofs.Finding.{bottleneck_found, first_found}
@@ -78,10 +78,6 @@ marks_of-at near n v low = get_or-map-range_with_len (λ u. tick (near u)) 0 n v
 tick-one : (b : Bool) → (tick b == 1) ≡ b
 tick-one true = refl
 tick-one false = refl
-
-tick-le : (b : Bool) → tick b ≤ 1
-tick-le true = omega arith
-tick-le false = omega arith
 
 marking_found : (g : Net) → Shaped g → Finished g →
     (marks : List ℕ) × (sum : ℕ) × (crossing : ℕ) × IsMarked g marks sum crossing

@@ -8,7 +8,7 @@ use Rattle.flow.specs.Steps.{along_reach, goes_back, arc_of, begins_at, finishes
 use Rattle.flow.specs.Flows.{sum_of}
 use Rattle.flow.specs.Changes.{carrying}
 use Rattle.flow.specs.Pushes.{least_headroom, amount_after, shifted, shifted_along, pushed}
-use Rattle.flow.proofs.Sums.{sum_of-le, sum_of-set, tick}
+use Rattle.flow.proofs.Sums.{sum_of-le, sum_of-set, tick, tick-le}
 use Rattle.flow.proofs.Walks.{open_in}
 use Rattle.flow.proofs.Pushing.{Off, headroom-kept}
 use Rattle.flow.proofs.Labelling.{FallsAt, Falls, IsDescent, descent_rest, apart_from_fall}
@@ -24,13 +24,9 @@ is_live label r = admissible_at label false r || admissible_at label true r
 abbrev pub live_count : (ℕ → ℕ) → List Arc → ℕ
 live_count label rs = sum_of (λ r. tick (is_live label r)) rs
 
-tick_le : (b : Bool) → tick b ≤ 1
-tick_le true = omega arith
-tick_le false = omega arith
-
 pub live_count-le : (label : ℕ → ℕ) (rs : List Arc) → live_count label rs ≤ length rs
 live_count-le label rs =
-    let each = λ (k : ℕ) (d : Arc) (low : k < length rs). tick_le (is_live label (slice_index_or rs k d)) in
+    let each = λ (k : ℕ) (d : Arc) (low : k < length rs). tick-le (is_live label (slice_index_or rs k d)) in
     omega (arith, sum_of-le (λ r. tick (is_live label r)) 1 rs each)
 
 -- a reach with an admissible step is live
@@ -51,7 +47,7 @@ live_shifted : (label : ℕ → ℕ) (d : ℕ) (rs : List Arc) (s : ℕ) → IsO
 live_shifted label d rs s opens falls =
     let r : Arc = carrying (amount_after d (goes_back s) (arc_of rs s)) (arc_of rs s) in
     let sums = sum_of-set (λ q. tick (is_live label q)) rs (along_reach s) r (open_in rs s opens) in
-    omega (arith, sums, live_here label (goes_back s) (arc_of rs s) opens falls, tick_le (is_live label r))
+    omega (arith, sums, live_here label (goes_back s) (arc_of rs s) opens falls, tick-le (is_live label r))
 
 live_spent : (label : ℕ → ℕ) (d : ℕ) (rs : List Arc) (s : ℕ) → IsOpen rs s → Falls label rs s → headroom rs s ≡ d →
     live_count label (shifted d rs s) < live_count label rs

@@ -1,5 +1,5 @@
 -- Sums over reaches.
-use Rattle.std.proofs.Common.{◌≡◌, ℕ, zero, suc, ◌+◌, ◌*◌, ◌<◌, ◌≤◌, ◌≢◌, List, [], ◌∷◌, ◌++◌, map, length, set, Bool, cond, refl, ap, ⊎_elim, arith}
+use Rattle.std.proofs.Common.{◌≡◌, ℕ, zero, suc, ◌+◌, ◌*◌, ◌<◌, ◌≤◌, ◌≢◌, List, [], ◌∷◌, ◌++◌, map, length, set, Bool, true, false, cond, refl, ap, ⊎_elim, arith}
 use Rattle.std.specs.List.{All}
 use Rattle.std.proofs.lemmas.List.Elements.{All-nil, All-cons, All-head, All-tail, All-from_get_or}
 use Rattle.std.proofs.lemmas.List.{set_past}
@@ -95,3 +95,7 @@ sum_of-tight f h P le (r ∷ rs) all same =
 -- 1 for yes, 0 for no
 abbrev pub tick : Bool → ℕ
 tick b = cond b 1 0
+
+pub tick-le : (b : Bool) → tick b ≤ 1
+tick-le true = omega arith
+tick-le false = omega arith
