@@ -1,12 +1,14 @@
 pub mod Sums
+pub mod Fairness
+pub mod Changing
 pub mod Junctions
 pub mod Walks
 pub mod Likeness
 pub mod Cutting
 pub mod Besting
 pub mod Pushing
-pub mod Order
 pub mod Labelling
+pub mod Order
 pub mod Firsts
 pub mod Distances
 pub mod Finding
@@ -18,5 +20,3 @@ pub mod Promising
 pub mod Answering
 pub mod Lawful
 pub mod Checking
-pub mod Fairness
-pub mod Changing
