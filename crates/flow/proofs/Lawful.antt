@@ -15,6 +15,7 @@ use Rattle.flow.proofs.Firsts.{first_unique, first_from_labels}
 use Rattle.flow.proofs.Distances.{shortest_length, shortest_labels}
 use Rattle.flow.proofs.Finding.{bottleneck_found, no_walk, high_finished, exact_found, exact_walk, first_found}
 use Rattle.flow.proofs.Running.{descent_along}
+use Rattle.flow.proofs.Attaining.{equality}
 use Rattle.flow.proofs.Machining.{shortest_apart, raised_all, settles_unique, settles_found, enough}
 use Rattle.flow.proofs.Lasting.{drained_flow, limited_flow}
 
@@ -55,6 +56,7 @@ cut_laws = record {
       omega (arith, ints, cut_balance g near shaped flow cut);
   found = bottleneck_found;
   best = best_cut;
+  equal = equality;
   agree = λ g h near other shaped a flow flows finished others is is'.
       agreed g h near other shaped a flow flows (best_cut g near shaped flow finished is)
       (best_cut h other (Shaped-alike g h a shaped) flows others is');

@@ -1,5 +1,5 @@
 -- What networks have in common that are alike but for what they carry.
-use Rattle.std.proofs.Common.{◌≡◌, ℕ, ◌<◌, ◌≤◌, cond, List, map, set, length, sym, ap, ◌∙◌, subst, arith}
+use Rattle.std.proofs.Common.{◌≡◌, ℕ, ◌<◌, ◌≤◌, cond, List, [], ◌∷◌, map, set, length, refl, sym, ap, ◌∙◌, subst, arith}
 use lib.ListN.{length-map}
 use Rattle.std.specs.List.{All}
 use Rattle.std.proofs.lemmas.List.{get_or-map, map-set, set-get_or, ext_get_or}
@@ -8,7 +8,7 @@ use Rattle.flow.specs.Bounds.{highest_limit}
 use Rattle.flow.specs.Net.{Arc, Net, no_arc, arc_at, Joined, Shaped}
 use Rattle.flow.specs.Steps.{along_reach, goes_back, begins_at, finishes_at, begins, finishes}
 use Rattle.flow.specs.Flows.{sum_of}
-use Rattle.flow.specs.Changes.{carrying, drained, Alike}
+use Rattle.flow.specs.Changes.{carrying, with_reaches, drained, Alike}
 use Rattle.flow.specs.Cuts.{Side, IsCut, crosses, limit_across, cut_sum, crossing_count}
 use Rattle.flow.specs.Laws.{SameScheme, AlikeMeans}
 use Rattle.flow.proofs.Sums.{sum_of-map}
@@ -53,6 +53,14 @@ pub crossing_count-alike : (near : Side) (rs qs : List Arc) → bare rs ≡ bare
 crossing_count-alike near rs qs a =
     let f : Arc → ℕ = λ r. cond (crosses near r) 1 0 in
     sym (sum_of-map f (carrying 0) rs) ∙ ap (sum_of f) a ∙ sum_of-map f (carrying 0) qs
+
+-- a network is alike to itself drained
+bare-bare : (rs : List Arc) → bare (bare rs) ≡ bare rs
+bare-bare [] = refl
+bare-bare (r ∷ rs) = ap (λ (xs : List Arc). carrying 0 r ∷ xs) (bare-bare rs)
+
+pub Alike-drained : (g : Net) → Alike g (drained g)
+Alike-drained g = ap (with_reaches g) (sym (bare-bare g.reaches))
 
 -- what holds of all reaches made from others holds of the others, each in its new form
 All-unmap : (P : Arc → Type 0) (f : Arc → Arc) (rs : List Arc) → All P (map f rs) → All (λ r. P (f r)) rs

@@ -28,3 +28,6 @@ pub record CutLaws : Type 0 where
   -- two such networks that are alike but for what they carry agree
   pub agree : (g h : Net) (near other : Side) → Shaped g → Alike g h → IsFlow g → IsFlow h → Finished g → Finished h →
       IsBottleneck g near → IsBottleneck h other → Agree g h near other
+  -- the most that a flow can deliver is the least sum of a cut (Ford and Fulkerson): some flow and some cut attain it
+  pub equal : (g : Net) → Shaped g →
+      (h : Net) × (near : Side) × Alike g h × IsFlow h × IsCut g near × (delivered h ≡ pos (cut_sum near g.reaches))
