@@ -200,10 +200,10 @@ pub still_pushed : (g : Net) (label : ℕ → ℕ) (ss : List ℕ) → IsDescent
 still_pushed g label ss down = still_along (least_headroom g.reaches ss) g.reaches label g.intake ss g.outfall down
 
 -- one label is raised
-relabelled_here : (label : ℕ → ℕ) (v c u : ℕ) → u ≡ v → relabelled v c label u ≡ c
+pub relabelled_here : (label : ℕ → ℕ) (v c u : ℕ) → u ≡ v → relabelled v c label u ≡ c
 relabelled_here label v c u same = grind (arith, nat_tests)
 
-relabelled_there : (label : ℕ → ℕ) (v c u : ℕ) → u ≢ v → relabelled v c label u ≡ label u
+pub relabelled_there : (label : ℕ → ℕ) (v c u : ℕ) → u ≢ v → relabelled v c label u ≡ label u
 relabelled_there label v c u ne = grind (arith, nat_tests)
 
 pub labels_relabelled : (g : Net) (label : ℕ → ℕ) (v c : ℕ) → Shaped g → Labels g label → v ≢ g.outfall → label v ≤ c →

@@ -1,6 +1,10 @@
 -- Steps: the two ways along a reach (residual arcs). Step 2k goes along reach k from tail to head, step 2k + 1 back.
-use Rattle.std.specs.Prelude.{ℕ, ◌-◌, ◌/◌, ◌%◌, ◌<◌, Bool, cond, List, ◌==◌}
+use Rattle.std.specs.Prelude.{ℕ, ◌+◌, ◌-◌, ◌*◌, ◌/◌, ◌%◌, ◌<◌, Bool, cond, List, ◌==◌}
 use Rattle.flow.specs.Net.{Arc, arc_at}
+
+-- the step along reach k, back or forth
+abbrev pub step_along : ℕ → Bool → ℕ
+step_along k back = 2 * k + cond back 1 0
 
 -- the reach that a step goes along, and whether it goes back
 abbrev pub along_reach : ℕ → ℕ

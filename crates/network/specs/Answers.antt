@@ -1,5 +1,5 @@
 -- What size and reach answer.
-use Rattle.std.specs.Prelude.{◌≡◌, ℕ, ◌-◌, List, [], ◌∷◌, length, Ok, Err, Result, nat_le}
+use Rattle.std.specs.Prelude.{◌≡◌, ℕ, Bool, true, false, List, [], ◌∷◌, length, Ok, Err, Result, nat_le}
 use Rattle.refusal.specs.declared.Refusal.{Refusal}
 use Rattle.refusal.specs.declared.Part.TheVariants.{Network}
 use Rattle.refusal.specs.Checks.{Check, check, Judged}
@@ -17,10 +17,10 @@ size_of g = record { junctions = g.junctions; reaches = length g.reaches; intake
 abbrev pub arc_in : Reach → Arc
 arc_in r = record { tail = r.tail; head = r.head; limit = r.limit; carried = r.carried }
 
--- how much more a step can take, each way along a reach
-abbrev pub headroom_of : Way → Arc → ℕ
-headroom_of Forth r = r.limit - r.carried
-headroom_of Back r = r.carried
+-- whether a way along a reach goes back, from the head to the tail
+abbrev pub is_back : Way → Bool
+is_back Forth = false
+is_back Back = true
 
 -- reach k is refused with 4, by the network, where there is no such reach
 abbrev pub reach_checks : List Arc → ℕ → List Check

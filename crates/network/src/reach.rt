@@ -32,12 +32,33 @@ pub enum BrokenBound {
 
 impl Reach {
     ghost use Rattle.std.specs.Prelude.{◌≡◌, ◌↔◌, IsTrue};
-    ghost use Rattle.network.specs.Answers.{arc_in, headroom_of};
+    ghost use Rattle.flow.specs.Steps.{begins_at, finishes_at, headroom_at};
+    ghost use Rattle.network.specs.Answers.{arc_in, is_back};
     ghost use Rattle.network.specs.Touching.{Touches};
 
-    // How much more a step along this reach can take: forth what is left of the limit, back what is carried.
+    // The junction at which a step along this reach begins.
+    pub fn begin(self, way: Way) -> u16
+        ensures { result ≡ begins_at (is_back way) (arc_in self) }
+    {
+        match way {
+            Way::Forth => self.tail,
+            Way::Back => self.head,
+        }
+    }
+
+    // The junction at which it finishes.
+    pub fn finish(self, way: Way) -> u16
+        ensures { result ≡ finishes_at (is_back way) (arc_in self) }
+    {
+        match way {
+            Way::Forth => self.head,
+            Way::Back => self.tail,
+        }
+    }
+
+    // How much more it can take: forth what is left of the limit, back what is carried.
     pub fn headroom(self, way: Way) -> u32
-        ensures { result ≡ headroom_of way (arc_in self) }
+        ensures { result ≡ headroom_at (is_back way) (arc_in self) }
     {
         match way {
             Way::Forth => self.limit - self.carried,

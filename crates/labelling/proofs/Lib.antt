@@ -1,0 +1,4 @@
+pub mod Scans
+pub mod Sets
+pub mod Raising
+pub mod Spreading

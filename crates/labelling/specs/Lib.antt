@@ -1,0 +1,4 @@
+pub mod Heights
+pub mod Keeping
+pub mod Scanning
+pub mod Moving

@@ -1,0 +1,4 @@
+pub mod Ends
+pub mod Going
+pub mod Routing
+pub mod Answering
