@@ -199,6 +199,24 @@ pub still_pushed : (g : Net) (label : ℕ → ℕ) (ss : List ℕ) → IsDescent
     (t : ℕ) → ¬ IsAdmissible label g.reaches t → ¬ IsAdmissible label (pushed ss g).reaches t
 still_pushed g label ss down = still_along (least_headroom g.reaches ss) g.reaches label g.intake ss g.outfall down
 
+-- a step that is admissible, and is none of them, stays so
+others_along : (d : ℕ) (rs : List Arc) (label : ℕ → ℕ) (from : ℕ) (ss : List ℕ) (to : ℕ) → IsDescent label rs from ss to →
+    (t : ℕ) → AllByRecursion (λ s. s ≢ t) ss → IsAdmissible label rs t → IsAdmissible label (shifted_along d rs ss) t
+others_along d rs label from [] to down t other is = is
+others_along d rs label from (s ∷ ss) to down t other is =
+    let off : along_reach t ≢ along_reach s =
+    λ same. other.0 (sym (one_step label rs t s same is.falls down.falls.0)) in
+    others_along d (shifted d rs s) label (finishes rs s) ss to (descent_rest d label rs from s ss to down) t other.1
+    (record {
+      opens = omega (arith, is.opens, headroom-kept d rs s t off);
+      falls = Falls-alike label rs (shifted d rs s) (bare-shifted d rs s) t is.falls;
+    })
+
+pub others_pushed : (g : Net) (label : ℕ → ℕ) (ss : List ℕ) → IsDescent label g.reaches g.intake ss g.outfall →
+    (t : ℕ) → All (λ s. s ≢ t) ss → IsAdmissible label g.reaches t → IsAdmissible label (pushed ss g).reaches t
+others_pushed g label ss down t other =
+    others_along (least_headroom g.reaches ss) g.reaches label g.intake ss g.outfall down t (recursion_from_All (λ s. s ≢ t) ss other)
+
 -- one label is raised
 pub relabelled_here : (label : ℕ → ℕ) (v c u : ℕ) → u ≡ v → relabelled v c label u ≡ c
 relabelled_here label v c u same = grind (arith, nat_tests)

@@ -10,7 +10,7 @@ use Rattle.flow.proofs.Likeness.{Shaped-alike}
 use Rattle.flow.proofs.Cutting.{cut_balance, carried_across-le}
 use Rattle.flow.proofs.Besting.{best_cut, agreed}
 use Rattle.flow.proofs.Pushing.{Apart, raised, least_above_0, Sound-pushed}
-use Rattle.flow.proofs.Labelling.{descent_from_admissible, admissible_from_descent, labels_bound, labels_pushed, still_pushed, labels_relabelled, still_elsewhere}
+use Rattle.flow.proofs.Labelling.{descent_from_admissible, admissible_from_descent, labels_bound, labels_pushed, still_pushed, others_pushed, labels_relabelled, still_elsewhere}
 use Rattle.flow.proofs.Firsts.{first_unique, first_from_labels}
 use Rattle.flow.proofs.Distances.{shortest_length, shortest_labels}
 use Rattle.flow.proofs.Finding.{bottleneck_found, no_walk, high_finished, exact_found, exact_walk, first_found}
@@ -72,6 +72,8 @@ label_laws = record {
       labels_pushed g label ss (descent_from_admissible label g.reaches g.intake ss g.outfall r all).falls h;
   still = λ g label ss h r all.
       still_pushed g label ss (descent_from_admissible label g.reaches g.intake ss g.outfall r all);
+  others = λ g label ss r all s.
+      others_pushed g label ss (descent_from_admissible label g.reaches g.intake ss g.outfall r all) s;
   relabelling = labels_relabelled;
   elsewhere = still_elsewhere;
   found = exact_found;

@@ -34,7 +34,7 @@ Roomy d rs ss = AllByRecursion (λ t. d ≤ headroom rs t) ss
 pub bare-shifted : (d : ℕ) (rs : List Arc) (s : ℕ) → bare rs ≡ bare (shifted d rs s)
 bare-shifted d rs s = bare-set rs (along_reach s) (amount_after d (goes_back s) (arc_of rs s))
 
-bare-along : (d : ℕ) (rs : List Arc) (ss : List ℕ) → bare rs ≡ bare (shifted_along d rs ss)
+pub bare-along : (d : ℕ) (rs : List Arc) (ss : List ℕ) → bare rs ≡ bare (shifted_along d rs ss)
 bare-along d rs [] = refl
 bare-along d rs (s ∷ ss) = bare-shifted d rs s ∙ bare-along d (shifted d rs s) ss
 

@@ -23,8 +23,11 @@ pub record LabelLaws : Type 0 where
   pub still : (g : Net) (label : ℕ → ℕ) (ss : List ℕ) →
       Labels g label → IsRoute g ss → All (IsAdmissible label g.reaches) ss →
       (s : ℕ) → ¬ IsAdmissible label g.reaches s → ¬ IsAdmissible label (pushed ss g).reaches s
-  -- so too when a junction's label is raised, to at most 1 + the least label at the far ends of its open steps; but steps
-  -- that begin there may have become admissible
+  -- and a step that was admissible, and is none of the route's, is so still
+  pub others : (g : Net) (label : ℕ → ℕ) (ss : List ℕ) → IsRoute g ss → All (IsAdmissible label g.reaches) ss →
+      (s : ℕ) → All (λ t. t ≢ s) ss → IsAdmissible label g.reaches s → IsAdmissible label (pushed ss g).reaches s
+  -- labels are labels still when a junction's label is raised, to at most 1 + the least label at the far ends of its
+  -- open steps; but steps that begin there may have become admissible
   pub relabelling : (g : Net) (label : ℕ → ℕ) (v c : ℕ) → Shaped g → Labels g label → v ≢ g.outfall → label v ≤ c →
       ((s : ℕ) → IsOpen g.reaches s → begins g.reaches s ≡ v → c ≤ label (finishes g.reaches s) + 1) →
       Labels g (relabelled v c label)

@@ -2,3 +2,5 @@ pub mod Scans
 pub mod Sets
 pub mod Raising
 pub mod Spreading
+pub mod Fitting
+pub mod Walking

@@ -2,3 +2,4 @@ pub mod Heights
 pub mod Keeping
 pub mod Scanning
 pub mod Moving
+pub mod Standing

@@ -30,7 +30,9 @@ pub record Raised (g : Net) (x : Labelling) (v : ℕ) (y : Labelling) : Type 0 w
 -- or nothing changes, where that label would be no higher, or the junction's label is above every distance
 pub record NotRaised (g : Net) (x : Labelling) (v : ℕ) (y : Labelling) : Type 0 where
   pub same : y ≡ x
-  pub why : (c : ℕ) → IsRelabel g (label_of x) v c → v < most_junctions → label_of x v < most_junctions → c ≤ label_of x v
+  pub label : ℕ
+  pub relabel : IsRelabel g (label_of x) v label
+  pub why : v < most_junctions → label_of x v < most_junctions → label ≤ label_of x v
 
 abbrev pub Relabelled : Net → Labelling → ℕ → Option Unit → Labelling → Type 0
 Relabelled g x v (Some _) y = Raised g x v y

@@ -1,5 +1,5 @@
 // What changes labels and current steps, at one junction at a time.
-ghost use Rattle.std.specs.Prelude.{◌<◌};
+ghost use Rattle.std.specs.Prelude.{◌≡◌, ◌<◌};
 ghost use Rattle.labelling.specs.Keeping.{rise_left};
 ghost use Rattle.labelling.specs.Moving.{Advanced, Relabelled, OnSomeUnit};
 
@@ -11,7 +11,8 @@ use routes::{FIRST_STEP, OpenStep};
 impl Labelling {
     // Takes the first admissible step of the junction, from its current step on, as its current step.
     pub fn advance<N: Network>(&mut self, net: &N, junction: u16) -> Option<OpenStep>
-        ensures { Advanced (N.meaning net.now).reaches self.old junction result self.new }
+        ensures told { Advanced (N.meaning net.now).reaches self.old junction result self.new }
+        ensures level { rise_left self.new ≡ rise_left self.old }
     {
         let step = self.first_admissible(net, junction)?;
         self.current[usize::from(junction)] = step.number;

@@ -1,5 +1,5 @@
 ghost use Rattle.flow.specs.Net.{Net};
-ghost use Rattle.routes.specs.Answering.{Answered, StaysInStep};
+ghost use Rattle.routes.specs.Answering.{Answers};
 
 use crate::route::Route;
 use network::Network;
@@ -25,9 +25,7 @@ pub trait Begun: Sized {
     // then stays in step with the network, and is in step also with the network after that route is pushed. Out of step it
     // answers some steps, or `None`, and nothing is said of them.
     fn route<N: Network>(&mut self, net: &N) -> Option<Route>
-        ensures answer { in_step self.old (N.meaning net.now) → Answered (N.meaning net.now) result }
-        ensures stays { in_step self.old (N.meaning net.now) →
-            StaysInStep (in_step self.new) (N.meaning net.now) result };
+        ensures { in_step self.old (N.meaning net.now) → Answers (N.meaning net.now) (in_step self.new) result };
 
     // Ends: the search rests again.
     fn end(self) -> Self::Resting;

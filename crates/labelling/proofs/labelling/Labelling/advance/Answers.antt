@@ -3,8 +3,8 @@ use Rattle.flow.proofs.Walks.{ends_in}
 use Rattle.labelling.proofs.Sets.{relabelled_from_set}
 use Rattle.labelling.proofs.labelling.Labelling.advance.Goals as goal
 
-pub returns : goal.returns
-returns g c =
+pub returns-clause-told : goal.returns-clause-told
+returns-clause-told g c =
     let n = g.N.Network.meaning c.args.net.now in
     let shaped = (g.N.Network.sound c.args.net.now).shaped in
     let found = c.in_ok-step.ensures in

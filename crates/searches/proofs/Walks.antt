@@ -1,0 +1,100 @@
+-- A search that walks from the intake: its labels and current steps fit the network, and its walk is along them.
+use Rattle.std.proofs.Common.{◌≡◌, ℕ, ◌+◌, ◌<◌, ◌≤◌, ◌≢◌, List, [], ◌∷◌, ◌++◌, length, Some, None, refl, sym, ap, ◌∙◌, subst, arith}
+use Rattle.flow.specs.Net.{Net, Shaped}
+use Rattle.flow.specs.Steps.{begins, finishes}
+use Rattle.flow.specs.Routes.{IsWalk, Finished, IsFirst}
+use Rattle.flow.specs.Pushes.{pushed}
+use Rattle.flow.specs.Labels.{relabelled}
+use Rattle.flow.proofs.Walks.{open_in}
+use Rattle.routes.specs.declared.step.OpenStep.{OpenStep}
+use Rattle.routes.specs.Going.{first_step, BeginTold}
+use Rattle.routes.specs.Routing.{most_steps, Pushed, Popped}
+use Rattle.labelling.specs.declared.labelling.Labelling.{Labelling}
+use Rattle.labelling.specs.Keeping.{label_of, current_of}
+use Rattle.labelling.specs.Scanning.{IsRelabel}
+use Rattle.labelling.specs.Moving.{Advanced, Raised, NotRaised, Relabelled}
+use Rattle.labelling.specs.Standing.{Fits}
+use Rattle.labelling.proofs.Fitting.{fits_advanced, raises, fits_raised, fits_pushed}
+use Rattle.labelling.proofs.Walking.{Walking, walking_none, walking_admissible, walking_length, walking_first, walking_on, walking_back, walking_in, last_opens}
+
+pub record Stands (g : Net) (x : Labelling) (ss : List ℕ) (v : ℕ) : Type 0 where
+  pub fits : Fits g (label_of x) (current_of x)
+  pub walking : Walking g (label_of x) ss v
+
+-- the labels may be told by equal functions, and so the current steps
+fits_told : (g : Net) (label l current c : ℕ → ℕ) → l ≡ label → c ≡ current → Fits g label current → Fits g l c
+fits_told g label l current c same so h = rw (same, so) h
+
+module _ (g : Net) (shaped : Shaped g) (x : Labelling) (ss : List ℕ) (v : ℕ) (h : Stands g x ss v) where
+  -- at the outfall the route is found, and may be pushed
+  pub stands_answer : v ≡ g.outfall →
+      IsFirst g ss × Fits g (label_of x) (current_of x) × Fits (pushed ss g) (label_of x) (current_of x)
+  stands_answer out =
+      let route = subst (IsWalk g.reaches g.intake ss) out h.walking.walk in
+      let all = walking_admissible g (label_of x) ss v h.walking in (
+        walking_first g (label_of x) ss v h.walking h.fits.labels out,
+        h.fits,
+        fits_pushed g (label_of x) (current_of x) h.fits ss route all,
+      )
+
+  module _ (below : label_of x g.intake < g.junctions) where
+    -- there is room for one step more
+    pub stands_room : length ss < most_steps
+    stands_room = omega (arith, walking_length g (label_of x) ss v h.walking, below, shaped.few)
+
+    -- the walk goes on
+    pub stands_on : (y : Labelling) (s : OpenStep) (after : List ℕ) → Advanced g.reaches x v (Some s) y →
+        after ≡ ss ++ s.number ∷ [] → Stands g y after s.finish
+    stands_on y s after told longer = record {
+      fits = fits_told g (label_of x) (label_of y) (relabelled v s.number (current_of x)) (current_of y) told.1.0 told.1.1
+          (fits_advanced g (label_of x) (current_of x) h.fits v s told.0);
+      walking = rw (told.1.0, longer, told.0.0.finish) (walking_on g (label_of x) ss v h.walking (current_of x) h.fits s told.0);
+    }
+
+    module _ (y z : Labelling) (none : Advanced g.reaches x v None y) (ne : v ≢ g.outfall) where
+      -- the label of a junction with no admissible step left is raised
+      higher : (c : ℕ) → IsRelabel g (label_of x) v c → label_of x v < c
+      higher c r =
+          let low = walking_length g (label_of x) ss v h.walking in
+          raises g (label_of x) (current_of x) h.fits v c r (omega (arith, low, below)) none.0
+
+      pub stands_raised : Relabelled g y v None z → ⊥
+      stands_raised r =
+          let n = rw none.1 at r in
+          let low = walking_length g (label_of x) ss v h.walking in
+          let inside = walking_in g (label_of x) ss v h.walking shaped in
+          omega (arith, higher n.label n.relabel, n.why (omega (arith, inside, shaped.few)) (omega (arith, low, below, shaped.few)))
+
+      fits_then : Raised g y v z → (c : ℕ) × (label_of x v < c) × (label_of z ≡ relabelled v c (label_of x)) × Fits g (label_of z) (current_of z)
+      fits_then r =
+          let n = rw none.1 at r in
+          let up = higher n.label n.relabel in
+          let then = fits_raised g (label_of x) (current_of x) h.fits v n.label n.relabel shaped ne up in (
+            n.label,
+            up,
+            n.labels,
+            fits_told g (relabelled v n.label (label_of x)) (label_of z) (relabelled v first_step (current_of x)) (current_of z) n.labels n.again then,
+          )
+
+      -- the walk retreats by its last step, where it has one
+      pub stands_back : (last u : ℕ) (after : List ℕ) → Raised g y v z → Popped ss (Some last) after →
+          BeginTold g.reaches last (Some u) → Stands g z after u
+      stands_back last u after r was begin =
+          let (c, up, is, fits) = fits_then r in
+          let walk = subst (λ ts. Walking g (label_of x) ts v) was h.walking in
+          record {
+            fits = fits;
+            walking = rw (is, begin) (walking_back g (label_of x) after last v c h.fits.labels up walk);
+          }
+
+      pub stands_last : (last : ℕ) (after : List ℕ) → Popped ss (Some last) after → ¬ BeginTold g.reaches last None
+      stands_last last after was past =
+          let walk = subst (λ ts. Walking g (label_of x) ts v) was h.walking in
+          let opens = last_opens g (label_of x) after last v walk in
+          omega (arith, open_in g.reaches last opens, past)
+
+      pub stands_still : (after : List ℕ) → Raised g y v z → Popped ss None after → Stands g z after v
+      stands_still after r was =
+          let (c, up, is, fits) = fits_then r in
+          let at : g.intake ≡ v = subst (λ ts. IsWalk g.reaches g.intake ts v) was.0 h.walking.walk in
+          record { fits = fits; walking = rw (was.1, ← at) (walking_none g (label_of z)) }
