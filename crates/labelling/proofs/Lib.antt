@@ -4,3 +4,4 @@ pub mod Raising
 pub mod Spreading
 pub mod Fitting
 pub mod Walking
+pub mod Stands

@@ -3,3 +3,4 @@ pub mod Keeping
 pub mod Scanning
 pub mod Moving
 pub mod Standing
+pub mod Following

@@ -2,6 +2,7 @@
 #![tactic(auto)]
 
 pub mod exact;
+pub mod following;
 pub mod heights;
 pub mod labelling;
 pub mod moving;

@@ -3,7 +3,7 @@ use Rattle.flow.proofs.Finding.{high_finished}
 use Rattle.network.specs.declared.size.Size.{Size}
 use Rattle.routes.specs.Routing.{steps_of}
 use Rattle.labelling.specs.Keeping.{label_of}
-use Rattle.searches.proofs.Walks.{stands_answer, stands_room, stands_on, stands_raised, stands_back, stands_last, stands_still}
+use Rattle.labelling.proofs.Stands.{label_falls, stands_answer, stands_room, stands_on, stands_raised, stands_back, stands_last, stands_still}
 use Rattle.searches.proofs.dd1.BegunDd1Begun.route.Goals as goal
 
 pub returns-in_err-relabel : goal.returns-in_err-relabel
@@ -56,10 +56,9 @@ returns-in_err-push g c = λ fits.
 
 pub advance-smaller : goal.advance-smaller
 advance-smaller g c =
-    let told = c.in-Some.ensures.told in
-    let label = label_of c.advance.self.kept in
-    omega (arith, ap (λ (f : ℕ → ℕ). f c.in-Some.step.finish) told.1.0, ap label told.0.0.finish, ap label told.0.1.there,
-    told.0.1.admissible.falls)
+    let n = g.N.Network.meaning c.args.net.now in
+    let falls = label_falls n c.advance.self.kept c.advance-in-advance.new.self c.advance.at c.in-Some.step c.in-Some.ensures.told in
+    omega (arith, falls)
 
 pub advance-preserved : goal.advance-preserved
 advance-preserved g c =

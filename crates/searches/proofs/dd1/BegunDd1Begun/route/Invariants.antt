@@ -2,7 +2,7 @@ use Rattle.std.proofs.Common.{◌≡◌, ℕ, ◌<◌}
 use Rattle.routes.specs.Routing.{steps_of}
 use Rattle.labelling.specs.Keeping.{label_of, current_of, rise_left}
 use Rattle.labelling.specs.Standing.{Fits}
-use Rattle.searches.proofs.Walks.{Stands}
+use Rattle.labelling.proofs.Stands.{Stands}
 use Rattle.searches.proofs.dd1.BegunDd1Begun.route.Given as goal
 
 -- where the search was in step with the network, its labels and current steps fit, and its walk is along them

@@ -1,19 +1,22 @@
 -- A search that walks from the intake: its labels and current steps fit the network, and its walk is along them.
-use Rattle.std.proofs.Common.{◌≡◌, ℕ, ◌+◌, ◌<◌, ◌≤◌, ◌≢◌, List, [], ◌∷◌, ◌++◌, length, Some, None, refl, sym, ap, ◌∙◌, subst, arith}
+use Rattle.std.proofs.Common.{◌≡◌, ℕ, ◌+◌, ◌<◌, ◌≤◌, ◌≢◌, List, [], ◌∷◌, ◌++◌, length, Some, None, refl, sym, ap, ◌∙◌, subst, inl, inr, ⊎_elim, arith}
+use Rattle.std.proofs.lemmas.Bool.{cases_eq}
 use Rattle.flow.specs.Net.{Net, Shaped}
 use Rattle.flow.specs.Steps.{begins, finishes}
-use Rattle.flow.specs.Routes.{IsWalk, Finished, IsFirst}
+use Rattle.flow.specs.Routes.{IsWalk, GoesFirst, Finished, IsFirst}
 use Rattle.flow.specs.Pushes.{pushed}
-use Rattle.flow.specs.Labels.{relabelled}
+use Rattle.flow.specs.Labels.{relabelled, ExactLabels}
 use Rattle.flow.proofs.Walks.{open_in}
+use Rattle.flow.proofs.Labelling.{relabelled_here, relabelled_there}
 use Rattle.routes.specs.declared.step.OpenStep.{OpenStep}
 use Rattle.routes.specs.Going.{first_step, BeginTold}
 use Rattle.routes.specs.Routing.{most_steps, Pushed, Popped}
 use Rattle.labelling.specs.declared.labelling.Labelling.{Labelling}
 use Rattle.labelling.specs.Keeping.{label_of, current_of}
-use Rattle.labelling.specs.Scanning.{IsRelabel}
+use Rattle.labelling.specs.Scanning.{AdmissibleAt, IsRelabel}
 use Rattle.labelling.specs.Moving.{Advanced, Raised, NotRaised, Relabelled}
 use Rattle.labelling.specs.Standing.{Fits}
+use Rattle.labelling.specs.Following.{OnlyAdvanced}
 use Rattle.labelling.proofs.Fitting.{fits_advanced, raises, fits_raised, fits_pushed}
 use Rattle.labelling.proofs.Walking.{Walking, walking_none, walking_admissible, walking_length, walking_first, walking_on, walking_back, walking_in, last_opens}
 
@@ -24,6 +27,32 @@ pub record Stands (g : Net) (x : Labelling) (ss : List ℕ) (v : ℕ) : Type 0 w
 -- the labels may be told by equal functions, and so the current steps
 fits_told : (g : Net) (label l current c : ℕ → ℕ) → l ≡ label → c ≡ current → Fits g label current → Fits g l c
 fits_told g label l current c same so h = rw (same, so) h
+
+-- advancing at a junction
+module _ (g : Net) (x y : Labelling) (v : ℕ) (s : OpenStep) (told : Advanced g.reaches x v (Some s) y) where
+  pub fits_on : Fits g (label_of x) (current_of x) → Fits g (label_of y) (current_of y)
+  fits_on fits = fits_told g (label_of x) (label_of y) (relabelled v s.number (current_of x)) (current_of y) told.1.0 told.1.1
+      (fits_advanced g (label_of x) (current_of x) fits v s told.0)
+
+  -- the label falls by 1
+  pub label_falls : label_of x v ≡ label_of y s.finish + 1
+  label_falls =
+      omega (arith, ap (λ (f : ℕ → ℕ). f s.finish) told.1.0, ap (label_of x) told.0.0.finish, ap (label_of x) told.0.1.there,
+      told.0.1.admissible.falls)
+
+  pub only_on : (was : Labelling) → OnlyAdvanced g.reaches was x → OnlyAdvanced g.reaches was y
+  only_on was only = record {
+    labels = told.1.0 ∙ only.labels;
+    current = λ u. ⊎_elim
+        (λ (here : u ≡ v).
+        let now = ap (λ (f : ℕ → ℕ). f u) told.1.1 ∙ relabelled_here (current_of x) v s.number u here in
+        inr (rw (now, here, ← only.labels) told.0.1))
+        (λ (ne : u ≢ v).
+        let now = ap (λ (f : ℕ → ℕ). f u) told.1.1 ∙ relabelled_there (current_of x) v s.number u ne in
+        ⊎_elim (λ (same : current_of x u ≡ current_of was u). inl (now ∙ same))
+        (λ (a : AdmissibleAt (label_of was) g.reaches u (current_of x u)). inr (rw now a)) (only.current u))
+        (cases_eq u v);
+  }
 
 module _ (g : Net) (shaped : Shaped g) (x : Labelling) (ss : List ℕ) (v : ℕ) (h : Stands g x ss v) where
   -- at the outfall the route is found, and may be pushed
@@ -46,8 +75,7 @@ module _ (g : Net) (shaped : Shaped g) (x : Labelling) (ss : List ℕ) (v : ℕ)
     pub stands_on : (y : Labelling) (s : OpenStep) (after : List ℕ) → Advanced g.reaches x v (Some s) y →
         after ≡ ss ++ s.number ∷ [] → Stands g y after s.finish
     stands_on y s after told longer = record {
-      fits = fits_told g (label_of x) (label_of y) (relabelled v s.number (current_of x)) (current_of y) told.1.0 told.1.1
-          (fits_advanced g (label_of x) (current_of x) h.fits v s told.0);
+      fits = fits_on g x y v s told h.fits;
       walking = rw (told.1.0, longer, told.0.0.finish) (walking_on g (label_of x) ss v h.walking (current_of x) h.fits s told.0);
     }
 
@@ -57,6 +85,14 @@ module _ (g : Net) (shaped : Shaped g) (x : Labelling) (ss : List ℕ) (v : ℕ)
       higher c r =
           let low = walking_length g (label_of x) ss v h.walking in
           raises g (label_of x) (current_of x) h.fits v c r (omega (arith, low, below)) none.0
+
+      -- where labels are exact it has one
+      pub stands_exact : ExactLabels g (label_of x) → ⊥
+      stands_exact exact =
+          let low = walking_length g (label_of x) ss v h.walking in
+          let (s, at, a) = exact.next v (walking_in g (label_of x) ss v h.walking shaped) ne (omega (arith, low, below)) in
+          let b = none.0 s (record { there = at; admissible = a }) in
+          h.fits.passed s a (subst (λ u. GoesFirst s (current_of x u)) (sym at) b)
 
       pub stands_raised : Relabelled g y v None z → ⊥
       stands_raised r =
