@@ -25,7 +25,7 @@ pub record Stands (g : Net) (x : Labelling) (ss : List ℕ) (v : ℕ) : Type 0 w
   pub walking : Walking g (label_of x) ss v
 
 -- the labels may be told by equal functions, and so the current steps
-fits_told : (g : Net) (label l current c : ℕ → ℕ) → l ≡ label → c ≡ current → Fits g label current → Fits g l c
+pub fits_told : (g : Net) (label l current c : ℕ → ℕ) → l ≡ label → c ≡ current → Fits g label current → Fits g l c
 fits_told g label l current c same so h = rw (same, so) h
 
 -- advancing at a junction

@@ -1,0 +1,36 @@
+-- What the search DD2 keeps between questions, and how much work mending has left.
+use Rattle.std.specs.Prelude.{ℕ, ◌+◌, ◌*◌, ◌<◌, ◌≡◌, ◌≢◌, ◌⊎◌, Some, None, Option}
+use Rattle.flow.specs.Net.{Net}
+use Rattle.labelling.specs.Keeping.{label_of, current_of, rise_left}
+use Rattle.labelling.specs.Scanning.{AdmissibleAt}
+use Rattle.labelling.specs.Standing.{Fits}
+use Rattle.searches.specs.declared.dd2.BegunDd2.{BegunDd2}
+use Rattle.searches.specs.Waiting.{IsPending, pending_count}
+
+-- the current step of a junction is admissible; of each whose label says that the outfall is reached, but the outfall, and
+-- but those that are left out
+pub record KeepsSteps (g : Net) (label current : ℕ → ℕ) (Out : ℕ → Type 0) : Type 0 where
+  pub has : (v : ℕ) → v < g.junctions → v ≢ g.outfall → label v < g.junctions → ¬ Out v →
+      AdmissibleAt label g.reaches v (current v)
+
+-- labels and current steps fit the network, and a junction that is not pending, nor left out, has its first admissible step
+pub record FitsBut (g : Net) (x : BegunDd2) (Out : ℕ → Type 0) : Type 0 where
+  pub fits : Fits g (label_of x.kept) (current_of x.kept)
+  pub steps : KeepsSteps g (label_of x.kept) (current_of x.kept) (λ v. IsPending x.pending v ⊎ Out v)
+
+abbrev pub InStep : BegunDd2 → Net → Type 0
+InStep x g = FitsBut g x (λ v. ⊥)
+
+-- once a junction is mended it is left out no longer; mending gives up out of step only
+abbrev pub Mends : Net → BegunDd2 → ℕ → Option Unit → BegunDd2 → Type 0
+Mends g x v (Some _) y = FitsBut g x (λ u. u ≡ v) → InStep y g
+Mends g x v None y = ¬ FitsBut g x (λ u. u ≡ v)
+
+-- all that is pending is mended
+abbrev pub Mended : Net → BegunDd2 → Option Unit → BegunDd2 → Type 0
+Mended g x (Some _) y = (InStep x g → InStep y g) × ((v : ℕ) → ¬ IsPending y.pending v)
+Mended g x None y = ¬ InStep x g
+
+-- how far labels can still rise, and how many junctions are pending
+abbrev pub work_left : BegunDd2 → ℕ
+work_left x = 513 * rise_left x.kept + pending_count x.pending
