@@ -1,1 +1,3 @@
 pub mod Drying
+pub mod Shifting
+pub mod Sofar

@@ -2,7 +2,10 @@
 #![tactic(auto)]
 
 pub mod draining;
+mod pushing;
+pub mod settling;
 pub mod tallying;
 
 pub use draining::drain;
+pub use settling::{Settled, settle};
 pub use tallying::tally;

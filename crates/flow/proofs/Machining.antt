@@ -1,5 +1,5 @@
 -- Routes pushed one after another, and the plain machine.
-use Rattle.std.proofs.Common.{◌≡◌, ℕ, zero, suc, ◌-◌, ◌*◌, ◌≤◌, ◌⊎◌, List, [], ◌∷◌, ◌++◌, length, refl, sym, ap₂, ◌∙◌, subst, inl, inr, arith, length-append}
+use Rattle.std.proofs.Common.{◌≡◌, ℕ, zero, suc, ◌+◌, ◌-◌, ◌*◌, ◌≤◌, ◌⊎◌, List, [], ◌∷◌, ◌++◌, length, refl, sym, ap₂, ◌∙◌, subst, inl, inr, arith, length-append}
 use Rattle.std.proofs.lemmas.Int.{ints}
 use Rattle.flow.specs.Net.{Net, Shaped}
 use Rattle.flow.specs.Flows.{IsFlow}
@@ -33,6 +33,11 @@ Shaped-pushed g ss shaped = Shaped-alike g (pushed ss g) (Alike-pushed ss g) sha
 pub pushed_all-append : (xs ys : List (List ℕ)) (g : Net) → pushed_all (xs ++ ys) g ≡ pushed_all ys (pushed_all xs g)
 pushed_all-append [] ys g = refl
 pushed_all-append (ss ∷ xs) ys g = pushed_all-append xs ys (pushed ss g)
+
+pub litres_of-append : (xs ys : List (List ℕ)) (g : Net) →
+    litres_of g (xs ++ ys) ≡ litres_of g xs + litres_of (pushed_all xs g) ys
+litres_of-append [] ys g = omega arith
+litres_of-append (ss ∷ xs) ys g = omega (arith, litres_of-append xs ys (pushed ss g))
 
 module _ (P : Net → List ℕ → Type 0) where
   pub EachPushed-append : (g : Net) (xs ys : List (List ℕ)) → EachPushed P g xs → EachPushed P (pushed_all xs g) ys →

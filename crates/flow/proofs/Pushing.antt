@@ -66,12 +66,12 @@ Roomy-kept c d rs s (t ∷ ts) off roomy =
     (omega (arith, roomy.0, headroom-kept d rs s t off.0), Roomy-kept c d rs s ts off.1 roomy.1)
 
 -- a walk along which d litres can be shifted; what is left of it when they are shifted along its first step
-record CanTake (d : ℕ) (rs : List Arc) (from : ℕ) (ss : List ℕ) (to : ℕ) : Type 0 where
-  walk : IsWalk rs from ss to
-  apart : Apart ss
-  roomy : Roomy d rs ss
+pub record CanTake (d : ℕ) (rs : List Arc) (from : ℕ) (ss : List ℕ) (to : ℕ) : Type 0 where
+  pub walk : IsWalk rs from ss to
+  pub apart : Apart ss
+  pub roomy : Roomy d rs ss
 
-CanTake-rest : (d : ℕ) (rs : List Arc) (from s : ℕ) (ss : List ℕ) (to : ℕ) → CanTake d rs from (s ∷ ss) to →
+pub CanTake-rest : (d : ℕ) (rs : List Arc) (from s : ℕ) (ss : List ℕ) (to : ℕ) → CanTake d rs from (s ∷ ss) to →
     CanTake d (shifted d rs s) (finishes rs s) ss to
 CanTake-rest d rs from s ss to can = record {
   walk = IsWalk-kept d rs s (finishes rs s) ss to can.apart.0 can.walk.2;
@@ -164,7 +164,7 @@ module _ (g : Net) (ss : List ℕ) (r : IsRoute g ss) (apart : Apart ss) where
   abbrev d : ℕ
   d = least_headroom g.reaches ss
 
-  can_take : CanTake d g.reaches g.intake ss g.outfall
+  pub can_take : CanTake (least_headroom g.reaches ss) g.reaches g.intake ss g.outfall
   can_take = record { walk = r; apart = apart; roomy = Roomy-least g.reaches ss }
 
   Within-pushed : Within g → Within (pushed ss g)

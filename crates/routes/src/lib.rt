@@ -7,4 +7,4 @@ pub mod step;
 
 pub use route::Route;
 pub use searching::{Begun, Search};
-pub use step::{FIRST_STEP, OpenStep, OpenSteps, StepEnd, begin_of};
+pub use step::{FIRST_STEP, OpenStep, OpenSteps, StepEnd, begin_of, way_of};

@@ -1,7 +1,7 @@
 // Steps: the two ways along a reach. Step 2k goes along reach k from its tail to its head, step 2k + 1 goes back.
 ghost use Rattle.std.specs.Prelude.{◌≡◌, ◌<◌};
 ghost use Rattle.flow.specs.Bounds.{most_reaches};
-ghost use Rattle.flow.specs.Steps.{step_along};
+ghost use Rattle.flow.specs.Steps.{step_along, goes_back};
 ghost use Rattle.network.specs.Answers.{arc_in, is_back};
 ghost use Rattle.routes.specs.declared.step.StepEnd.TheVariants as ends;
 ghost use Rattle.routes.specs.Ends.{end_at_way};
@@ -133,10 +133,17 @@ impl<N: Network> Iterator for OpenSteps<'_, N> {
     }
 }
 
+// The way in which a step goes along its reach.
+pub fn way_of(step: u16) -> Way
+    ensures { is_back result ≡ goes_back step }
+{
+    if step % 2 == 1 { Way::Back } else { Way::Forth }
+}
+
 // The junction at which a step begins, if the network has such a step.
 pub fn begin_of<N: Network>(net: &N, step: u16) -> Option<u16>
     ensures { BeginTold (N.meaning net.now).reaches step result }
 {
     let reach = net.reach(usize::from(step / 2)).ok()?;
-    Some(reach.begin(if step % 2 == 1 { Way::Back } else { Way::Forth }))
+    Some(reach.begin(way_of(step)))
 }
