@@ -1,6 +1,7 @@
 -- What settling does and answers.
 use Rattle.std.specs.Prelude.{◌≡◌, ℕ, List}
-use Rattle.flow.specs.Net.{Net}
+use Rattle.flow.proofs.Deciding.{settling_of}
+use Rattle.flow.specs.Net.{Net, Shaped}
 use Rattle.flow.specs.Pushes.{pushed_all}
 use Rattle.flow.specs.Histories.{Outcome, IsSettling}
 use Rattle.calls.specs.declared.settling.Settled.{Settled}
@@ -14,3 +15,12 @@ pub record SettledAs (g : Net) (budget : ℕ) (s : Settled) (after : Net) : Type
   pub routes : List (List ℕ)
   pub settling : IsSettling g budget routes (outcome_of s)
   pub leaves : after ≡ pushed_all routes g
+
+-- Settling has one outcome only. `settling_of` gives it, the routes and the answer; crate flow finds it for every network,
+-- and this law says what it is.
+abbrev pub OneSettling : Type 0
+OneSettling = (budget : ℕ) (g : Net) → Shaped g → IsSettling g budget (settling_of budget g).0 (settling_of budget g).1
+
+-- the answer of the one settling, and the network that it leaves
+abbrev pub after_settling : ℕ → Net → Outcome × Net
+after_settling budget g = ((settling_of budget g).1, pushed_all (settling_of budget g).0 g)

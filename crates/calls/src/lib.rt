@@ -2,6 +2,7 @@
 #![tactic(auto)]
 
 pub mod draining;
+pub mod laws;
 mod pushing;
 pub mod settling;
 pub mod tallying;

@@ -1,5 +1,5 @@
 ghost use Rattle.std.specs.Prelude.{◌≡◌, ℕ};
-ghost use Rattle.calls.specs.Settling.{SettledAs};
+ghost use Rattle.calls.specs.Settling.{SettledAs, outcome_of, after_settling};
 
 use crate::pushing::push;
 use network::Network;
@@ -17,6 +17,7 @@ pub struct Settled {
 // route is left is found out also where the budget is spent, or 0. The search comes back resting. Never refused.
 pub fn settle<N: Network, S: Search>(net: &mut N, search: S, budget: u32) -> (S, Settled)
     ensures settled { SettledAs (N.meaning net.old) budget result.1 (N.meaning net.new) }
+    ensures one { (outcome_of result.1, N.meaning net.new) ≡ after_settling budget (N.meaning net.old) }
     ensures giver { (j : ℕ) → N.giver net.new j ≡ N.giver net.old j }
 {
     let mut begun = search.begin(net);

@@ -22,7 +22,7 @@ use Rattle.flow.proofs.Lasting.{after_calls-append, IsHistory-append}
 abbrev outcome : ℕ → ℕ → Bool → Outcome
 outcome routes litres finished = record { routes = routes; litres = litres; finished = finished }
 
-one_settling : (g : Net) (budget : ℕ) (routes others : List (List ℕ)) (answer another : Outcome) →
+pub one_settling : (g : Net) (budget : ℕ) (routes others : List (List ℕ)) (answer another : Outcome) →
     IsSettling g budget routes answer → IsSettling g budget others another → (routes ≡ others) × (answer ≡ another)
 one_settling g budget routes others answer another p q = (same, all_same)
   where
@@ -57,7 +57,7 @@ told g routes shaped = either (first_found (pushed_all routes g) shaped)
     either (inl (ss, is)) = (false, (λ e. absurd (false≢true e), λ none. absurd (none ss is.shortest.route)))
     either (inr none) = (true, (λ e. none, λ e. refl))
 
-settling_found : (g : Net) (budget : ℕ) → Shaped g →
+pub settling_found : (g : Net) (budget : ℕ) → Shaped g →
     (routes : List (List ℕ)) × (answer : Outcome) × IsSettling g budget routes answer
 settling_found g budget shaped =
     let (routes, settles) = settles_found g budget shaped in

@@ -21,3 +21,4 @@ pub mod Promising
 pub mod Answering
 pub mod Lawful
 pub mod Checking
+pub mod Deciding
