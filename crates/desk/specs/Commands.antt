@@ -9,9 +9,10 @@ use Rattle.drawing.specs.Ahead.{Drawn, item, end, refused}
 use Rattle.desk.specs.declared.command.Command.{Command}
 use Rattle.desk.specs.declared.command.Command.TheVariants as command
 
--- the command that a record gives; settling and bottlenecks are read, but have none yet
+-- the command that a record gives; bottlenecks are read, but have none yet
 abbrev pub command_of : Said → Option Command
 command_of (limit k q) = Some (command.Limit k q)
+command_of (settle b) = Some (command.Settle b)
 command_of drain = Some command.Drain
 command_of tally = Some command.Tally
 command_of (shape n i o) = None
@@ -21,7 +22,6 @@ command_of table_end = None
 command_of (chamber j q) = None
 command_of (source j q) = None
 command_of (sink j q) = None
-command_of (settle b) = None
 command_of bottleneck = None
 
 -- the command, if there is one; else the letter of the record is a byte that is not allowed

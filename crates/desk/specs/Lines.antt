@@ -1,5 +1,5 @@
 -- The lines that the program prints, each without its end.
-use Rattle.std.specs.Prelude.{ℕ, List, [], ◌∷◌, ◌++◌, ℤ, Some, None, Ok, Err, Option, Result, codes, decimal}
+use Rattle.std.specs.Prelude.{ℕ, Bool, cond, List, [], ◌∷◌, ◌++◌, ℤ, Some, None, Ok, Err, Option, Result, codes, decimal}
 use Rattle.std.specs.Fmt.{signed_decimal}
 use Rattle.refusal.specs.declared.Part.{Part}
 use Rattle.refusal.specs.declared.Refusal.{Refusal}
@@ -15,6 +15,15 @@ network_line n m = codes "network " ++ (decimal n ++ (codes " " ++ decimal m))
 -- limit REACH LIMIT
 abbrev pub limit_line : ℕ → ℕ → List ℕ
 limit_line k q = codes "limit " ++ (decimal k ++ (codes " " ++ decimal q))
+
+-- yes or no
+abbrev pub yes_no : Bool → List ℕ
+yes_no b = cond b (codes "yes") (codes "no")
+
+-- settled ROUTES LITRES FINISHED
+abbrev pub settled_line : ℕ → ℕ → Bool → List ℕ
+settled_line routes litres finished =
+    codes "settled " ++ (decimal routes ++ (codes " " ++ (decimal litres ++ (codes " " ++ yes_no finished))))
 
 -- drained
 abbrev pub drained_line : List ℕ
@@ -36,6 +45,7 @@ refusal_line e = refusal_text (number_of e.fault) e.place e.part
 abbrev pub line_text : Line → List ℕ
 line_text (line.Network n m) = network_line n m
 line_text (line.Limit k q) = limit_line k q
+line_text (line.Settled routes litres finished) = settled_line routes litres finished
 line_text line.Drained = drained_line
 line_text (line.Tally d) = tally_line d
 line_text (line.Refused e) = refusal_line e

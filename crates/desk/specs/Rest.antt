@@ -17,7 +17,7 @@ rest_of (phase.Held c p) a giver g = command_lines (ask c p a) giver g
 rest_of phase.Commands a giver g = command_lines a giver g
 rest_of phase.Over a giver g = []
 
--- of a desk over any network, by what the network means and which part answers for its reaches
-module _ {N : Type 0} (means : N → Net) (gives : N → ℕ → Part) where
-  abbrev pub rest : Desk N → Lines
+-- of a desk over any network and with any search, by what the network means and which part answers for its reaches
+module _ {N S : Type 0} (means : N → Net) (gives : N → ℕ → Part) where
+  abbrev pub rest : Desk N S → Lines
   rest d = rest_of d.phase (asked (ahead d.reader)) (gives d.network) (means d.network)

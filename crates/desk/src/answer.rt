@@ -4,11 +4,18 @@ ghost use Rattle.desk.specs.Answering.{answered};
 
 use crate::command::Command;
 use crate::line::Line;
-use calls::{drain, tally};
+use calls::{Settled, drain, settle, tally};
 use network::Network;
+use routes::Search;
 
-// Carries out a command whose record stands at the place, over any network, and gives the line that says so.
-pub fn carry_out<N: Network>(net: &mut N, command: Command, place: usize) -> Line
+// Carries out a command whose record stands at the place, over any network and by any search, and gives the line that
+// says so.
+pub fn carry_out<N: Network, S: Search + Drop>(
+    net: &mut N,
+    search: S,
+    command: Command,
+    place: usize,
+) -> Line
     ensures done { (line_text result, N.meaning net.new)
         ≡ answered command place (N.giver net.old) (N.meaning net.old) }
     ensures giver { (j : ℕ) → N.giver net.new j ≡ N.giver net.old j }
@@ -18,6 +25,19 @@ pub fn carry_out<N: Network>(net: &mut N, command: Command, place: usize) -> Lin
             Ok(()) => Line::Limit { reach, limit },
             Err(refusal) => Line::Refused(refusal.at(place)),
         },
+        Command::Settle { budget } => {
+            let (_, answer) = settle(net, search, budget);
+            let Settled {
+                routes,
+                litres,
+                finished,
+            } = answer;
+            Line::Settled {
+                routes,
+                litres,
+                finished,
+            }
+        }
         Command::Drain => {
             drain(net);
             Line::Drained

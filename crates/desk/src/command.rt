@@ -9,6 +9,7 @@ use refusal::Fault;
 #[derive(Clone, Copy)]
 pub enum Command {
     Limit { reach: u16, limit: u32 },
+    Settle { budget: u32 },
     Drain,
     Tally,
 }
@@ -22,6 +23,7 @@ impl TryFrom<Record<'_>> for Command {
     fn try_from(item: Record<'_>) -> Result<Command, Fault> {
         match item {
             Record::Limit { reach, limit } => Ok(Command::Limit { reach, limit }),
+            Record::Settle { budget } => Ok(Command::Settle { budget }),
             Record::Drain => Ok(Command::Drain),
             Record::Tally => Ok(Command::Tally),
             _ => Err(Fault::ByteNotAllowed),

@@ -14,6 +14,7 @@ use crate::line::Line;
 use drawing::Reader;
 use network::Network;
 use refusal::{Part, Refusal};
+use routes::Search;
 
 // How far a desk has come. (A value, and no closure or type for each step: an iterator has to keep it in a field.)
 #[derive(Clone, Copy)]
@@ -28,11 +29,12 @@ enum Phase {
     Over,
 }
 
-// Answers the commands of a drawing over any network, a line a call.
+// Answers the commands of a drawing over any network and by any search, a line a call.
 #[derive(Drop)]
-pub struct Desk<'a, N: Network> {
+pub struct Desk<'a, N: Network, S> {
     reader: Reader<'a>,
     network: N,
+    search: S,
     phase: Phase,
 }
 
@@ -61,9 +63,9 @@ fn network_line<N: Network>(net: &N) -> Line
     }
 }
 
-impl<'a, N: Network> Desk<'a, N> {
+impl<'a, N: Network, S: Search + Copy> Desk<'a, N, S> {
     // A desk for the commands that the reader has ahead of it.
-    pub fn new(reader: Reader<'a>, network: N) -> Desk<'a, N>
+    pub fn new(reader: Reader<'a>, network: N, search: S) -> Desk<'a, N, S>
         ensures lines { rest N.meaning N.giver result
             ≡ opened_lines (asked (ahead reader.entry)) (N.giver network) (N.meaning network) }
         ensures count { length (rest N.meaning N.giver result) ≡ lines_for (asked (ahead reader.entry)) }
@@ -71,6 +73,7 @@ impl<'a, N: Network> Desk<'a, N> {
         Desk {
             reader,
             network,
+            search,
             phase: Phase::Opening,
         }
     }
@@ -101,7 +104,7 @@ impl<'a, N: Network> Desk<'a, N> {
         ensures { YieldsFirstBy line_text (rest N.meaning N.giver) self.old result self.new }
     {
         match next_command(&mut self.reader) {
-            Ok(Some((command, place))) => Some(carry_out(&mut self.network, command, place)),
+            Ok(Some((command, place))) => Some(carry_out(&mut self.network, self.search, command, place)),
             Ok(None) => {
                 self.phase = Phase::Over;
                 None
@@ -121,7 +124,7 @@ impl<'a, N: Network> Desk<'a, N> {
             Phase::Opening => Some(self.open()),
             Phase::Held { command, place } => {
                 self.phase = Phase::Commands;
-                Some(carry_out(&mut self.network, command, place))
+                Some(carry_out(&mut self.network, self.search, command, place))
             }
             Phase::Commands => self.command(),
             Phase::Over => None,
@@ -131,7 +134,7 @@ impl<'a, N: Network> Desk<'a, N> {
 
 // The lines, one after the other, up to the last. An iterator can be dropped, and so its network has to be one that can;
 // `next_line` asks no such thing.
-impl<N: Network + Drop> Iterator for Desk<'_, N> {
+impl<N: Network + Drop, S: Search + Copy> Iterator for Desk<'_, N, S> {
     type Item = Line;
 
     ghost next_gives = { YieldsFirstBy line_text (rest N.meaning N.giver) };

@@ -11,6 +11,12 @@ pub enum Line {
     Network { junctions: u16, reaches: usize },
     // The limit of a reach was set.
     Limit { reach: u16, limit: u32 },
+    // Routes were pushed, and so many litres with them; whether none is left.
+    Settled {
+        routes: u32,
+        litres: u64,
+        finished: bool,
+    },
     // All was drained.
     Drained,
     // What the network delivers.
@@ -26,6 +32,14 @@ impl fmt::Display for Line {
         match self {
             Line::Network { junctions, reaches } => write!(f, "network {junctions} {reaches}"),
             Line::Limit { reach, limit } => write!(f, "limit {reach} {limit}"),
+            Line::Settled {
+                routes,
+                litres,
+                finished,
+            } => {
+                let word = if *finished { "yes" } else { "no" };
+                write!(f, "settled {routes} {litres} {word}")
+            }
             Line::Drained => f.write_str("drained"),
             Line::Tally(delivered) => write!(f, "tally {delivered}"),
             Line::Refused(refusal) => write!(f, "{refusal}"),

@@ -42,6 +42,7 @@ limited_not None k q p g = refl
 
 answered_not : (c : Command) (p : ℕ) (giver : ℕ → Part) (g : Net) → is_network (answered c p giver g).0 ≡ false
 answered_not (command.Limit k q) p giver g = limited_not (first_of (change_checks (change.Limit q) g.reaches giver k)) k q p g
+answered_not (command.Settle b) p giver g = refl
 answered_not command.Drain p giver g = refl
 answered_not command.Tally p giver g = refl
 
@@ -161,6 +162,8 @@ module _ (g : Net) (giver : ℕ → Part) where
       (fed_once rest h.0 (with_feeder Sink r fs) h.2))
   fed_once (item p (limit k q) rest) stage fs h =
       commanded_once (item p (limit k q) rest) fs (ap (together nothing) (nothing_after stage h.0 rest h.1 h.2))
+  fed_once (item p (settle b) rest) stage fs h =
+      commanded_once (item p (settle b) rest) fs (ap (together nothing) (nothing_after stage h.0 rest h.1 h.2))
   fed_once (item p drain rest) stage fs h =
       commanded_once (item p drain rest) fs (ap (together nothing) (nothing_after stage h.0 rest h.1 h.2))
   fed_once (item p tally rest) stage fs h =

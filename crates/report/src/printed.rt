@@ -7,14 +7,16 @@ ghost use Rattle.desk.specs.Rest.{rest};
 use crate::setup::open;
 use desk::Desk;
 use network::{Network, Row};
+use routes::Search;
+use searches::Dd1;
 use std::fmt;
 
 // How many rows the table of a report has.
 const ROWS: usize = 1024;
 
 // Prints the lines that a desk has still to give.
-fn tell<N: Network + Drop, W: fmt::Write>(
-    desk: Desk<'_, N>,
+fn tell<N: Network + Drop, S: Search + Copy, W: fmt::Write>(
+    desk: Desk<'_, N, S>,
     f: &mut fmt::Formatter<W>,
 ) -> fmt::Result
     ensures { WritesOnOk W.Write.write_str_gives f.old result
@@ -26,7 +28,7 @@ fn tell<N: Network + Drop, W: fmt::Write>(
     Ok(())
 }
 
-// The whole of what is printed for the drawing in these bytes, whatever they are.
+// The whole of what is printed for the drawing in these bytes, whatever they are. Settling goes by the search DD1.
 #[derive(Clone, Copy)]
 pub struct Report<'a>(pub &'a [u8]);
 
@@ -35,7 +37,7 @@ impl fmt::Display for Report<'_> {
 
     fn fmt<W: fmt::Write>(&self, f: &mut fmt::Formatter<W>) -> fmt::Result {
         let mut rows = [Row::default(); ROWS];
-        match open(self.0, &mut rows) {
+        match open(self.0, &mut rows, Dd1) {
             Ok(desk) => tell(desk, f),
             Err(refusal) => writeln!(f, "{refusal}"),
         }

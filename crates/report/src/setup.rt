@@ -18,6 +18,7 @@ use entries::{enter_chambers, enter_feeders};
 use gathering::Gathering;
 use network::Row;
 use refusal::{Fault, Part, Refusal, located};
+use routes::Search;
 use table::{Draft, Table};
 
 // Enters one record of the table, which is not its end, into the draft. (Its place is apart from it: it is the reader's,
@@ -61,8 +62,13 @@ fn lay_table(reader: &mut Reader<'_>, draft: &mut Draft<'_>) -> Result<(), Refus
 pub type Stack<'t> = Gathering<Chambers<Table<'t>>>;
 
 // Reads the table of a drawing into the rows, commissions its network, puts the layers over it, and gives the desk that
-// answers its commands; or the refusal that is then the only line.
-pub fn open<'a, 't>(input: &'a [u8], rows: &'t mut [Row]) -> Result<Desk<'a, Stack<'t>>, Refusal>
+// answers its commands by this search; or the refusal that is then the only line. What the lines are does not depend on the
+// search.
+pub fn open<'a, 't, S: Search + Copy>(
+    input: &'a [u8],
+    rows: &'t mut [Row],
+    search: S,
+) -> Result<Desk<'a, Stack<'t>, S>, Refusal>
     ensures lines { reported (places_in rows.old) input.now
         ≡ elim result [ Ok d ↦ rest gathering_net gathering_giver d | Err e ↦ refusal_line e ∷ [] ] }
     ensures once { ToldOnce (drawn input.now) (reported (places_in rows.old) input.now) }
@@ -74,5 +80,5 @@ pub fn open<'a, 't>(input: &'a [u8], rows: &'t mut [Row]) -> Result<Desk<'a, Sta
     enter_chambers(&mut reader, &mut chambers)?;
     let mut gathering = Gathering::new(chambers);
     enter_feeders(&mut reader, &mut gathering)?;
-    Ok(Desk::new(reader, gathering))
+    Ok(Desk::new(reader, gathering, search))
 }

@@ -1,8 +1,11 @@
-use Rattle.std.proofs.Common.{rules}
+use Rattle.std.proofs.Common.{[], refl, rules}
 use Rattle.desk.specs.Lines.{line_text}
 use Rattle.desk.specs.Rest.{rest}
 use Rattle.report.proofs.Telling.{one_more}
 use Rattle.report.proofs.printed.tell.Goals as goal
+
+pub loop-line-init : goal.loop-line-init
+loop-line-init g c = (tt, tt, λ p. record { bytes = []; put = record { wrote = search rules; plain = p }; split = refl })
 
 pub loop-line-preserved : goal.loop-line-preserved
 loop-line-preserved g c =
