@@ -66,7 +66,7 @@ STAGES = {
 MAY_END = ("after E", "after I or O", "commands")
 
 # Kinds that are read, but that the program has no command for yet.
-NOT_CARRIED_OUT = "SB"
+NOT_CARRIED_OUT = "B"
 
 
 # ---- Builders: each returns the bytes of one record. -----------------------------------------------------------------
@@ -184,6 +184,57 @@ class Network:
         leaves = sum(reach.carried for reach in self.reaches() if reach.tail == self.intake)
         enters = sum(reach.carried for reach in self.reaches() if reach.head == self.intake)
         return leaves - enters
+
+
+    def first_shortest_route(self):
+        """The route with the fewest steps, and of those the one that is first by its step numbers; None where there is
+        no route. Step 2k goes along reach k, step 2k + 1 back along it.
+        """
+        steps = []  # the open steps: number, where it begins, where it finishes
+        for k, reach in enumerate(self.reaches()):
+            if reach.carried < reach.limit:
+                steps.append((2 * k, reach.tail, reach.head))
+            if reach.carried > 0:
+                steps.append((2 * k + 1, reach.head, reach.tail))
+        into = {}
+        for _, begin, finish in steps:
+            into.setdefault(finish, []).append(begin)
+        distance, ring = {self.outfall: 0}, [self.outfall]
+        while ring:
+            further = []
+            for finish in ring:
+                for begin in into.get(finish, []):
+                    if begin not in distance:
+                        distance[begin] = distance[finish] + 1
+                        further.append(begin)
+            ring = further
+        if self.intake not in distance:
+            return None
+        route, at = [], self.intake
+        while at != self.outfall:
+            number, at = min(
+                (number, finish)
+                for number, begin, finish in steps
+                if begin == at and distance.get(finish) == distance[at] - 1
+            )
+            route.append(number)
+        return route
+
+    def settle(self, budget):
+        """Pushes first shortest routes until there is none or the budget is spent. Returns how many, the litres that
+        they added, and whether none is left.
+        """
+        routes = litres = 0
+        while True:
+            route = self.first_shortest_route()
+            if route is None or routes == budget:
+                return routes, litres, route is None
+            along = [(self.kept(step // 2)[0], step % 2) for step in route]
+            least = min(reach.carried if back else reach.limit - reach.carried for reach, back in along)
+            for reach, back in along:
+                reach.carried += -least if back else least
+            routes += 1
+            litres += least
 
 
 class Draft:
@@ -459,6 +510,9 @@ def report(data):
             elif kind == "L":
                 network.limit(*fields)
                 lines.append(f"limit {fields[0]} {fields[1]}")
+            elif kind == "S":
+                routes, litres, finished = network.settle(*fields)
+                lines.append(f"settled {routes} {litres} {'yes' if finished else 'no'}")
             elif kind == "D":
                 network.drain()
                 lines.append("drained")

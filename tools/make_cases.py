@@ -177,7 +177,8 @@ def cuts_and_bad_bytes():
         (O(3, 550), []),
         (I(0, None), []),
         (L(1, 700), ["network 7 5", "limit 1 700"]),
-        (T(), ["tally 0"]),
+        (S(7), ["settled 1 550 yes"]),
+        (T(), ["tally 550"]),
         (D(), ["drained"]),
     ]
     # The network line where the drawing ends after a record of this kind and no command was read.
@@ -337,16 +338,67 @@ def stacks():
         refused(4, 9707, "network"), "limit 1087 5", "tally 0")
 
 
+# Two mains and a link between them: routes 0 6, then 2 8, then 0 4 8, which push 2, 2 and 1 litres.
+MAINS = H(4, 0, 3) + R(0, 1, 3) + R(0, 2, 2) + R(1, 2, 1) + R(1, 3, 2) + R(2, 3, 3) + E()  # 53 bytes
+MAINS_NETWORK = "network 4 5"
+
+# Every limit 1: routes 0 2 4, and then 10 12 3 6 8, which goes back along reach 1.
+CROSSED = H(6, 0, 5) + R(0, 1, 1) + R(1, 2, 1) + R(2, 5, 1) + R(1, 3, 1) + R(3, 5, 1) + R(0, 4, 1) + R(4, 2, 1) + E()
+
+
+def settlings():
+    """Settlings: with each budget, one after another, over layers, and among other commands."""
+    add("settle-10", MAINS + S(10) + T(), MAINS_NETWORK, "settled 3 5 yes", "tally 5")
+    add("settle-0", MAINS + S(0) + T(), MAINS_NETWORK, "settled 0 0 no", "tally 0")
+    add("settle-1", MAINS + S(1) + T(), MAINS_NETWORK, "settled 1 2 no", "tally 2")
+    add("settle-2", MAINS + S(2) + T(), MAINS_NETWORK, "settled 2 4 no", "tally 4")
+    add("settle-3", MAINS + S(3) + T(), MAINS_NETWORK, "settled 3 5 yes", "tally 5")
+    add("settle-highest", MAINS + S(0xFFFF_FFFF) + T(), MAINS_NETWORK, "settled 3 5 yes", "tally 5")
+    add("settle-by-and-by", MAINS + S(1) + S(1) + S(1) + S(1) + S(0) + T(), MAINS_NETWORK, "settled 1 2 no",
+        "settled 1 2 no", "settled 1 1 yes", "settled 0 0 yes", "settled 0 0 yes", "tally 5")
+    add("settle-drain-settle", MAINS + S(9) + D() + T() + S(2) + D() + S(9) + T(), MAINS_NETWORK, "settled 3 5 yes",
+        "drained", "tally 0", "settled 2 4 no", "drained", "settled 3 5 yes", "tally 5")
+    add("settle-crossed", CROSSED + S(1) + S(9) + T(), "network 6 7", "settled 1 1 no", "settled 1 1 yes", "tally 2")
+    add("settle-no-reach", HEADER + E() + S(0) + S(9), "network 3 0", "settled 0 0 yes", "settled 0 0 yes")
+    add("settle-no-route", HEADER + R(1, 0, 9) + R(2, 1, 9) + E() + S(9) + T(), "network 3 2", "settled 0 0 yes",
+        "tally 0")
+    add("settle-limit-0", HEADER + R(0, 1, 0) + R(1, 2, 9) + E() + S(9), "network 3 2", "settled 0 0 yes")
+    add("settle-highest-limits", HEADER + R(0, 2, 1_000_000) + R(0, 2, 1_000_000) + E() + S(9) + T(), "network 3 2",
+        "settled 2 2000000 yes", "tally 2000000")
+
+    # A limit below the carried amount is refused with 6; one equal to it is not; a raised one opens a route again.
+    add("limit-below-carried", MAINS + S(9) + L(0, 2) + L(0, 3) + L(0, 4) + S(9) + T(), MAINS_NETWORK,
+        "settled 3 5 yes", refused(6, 58, "network"), "limit 0 3", "limit 0 4", "settled 0 0 yes", "tally 5")
+    add("limit-raised", MAINS + S(9) + L(3, 5) + L(0, 6) + S(9) + T(), MAINS_NETWORK,
+        "settled 3 5 yes", "limit 3 5", "limit 0 6", "settled 1 3 yes", "tally 8")
+    add("limit-5-before-6", MAINS + S(9) + L(0, 1_000_001), MAINS_NETWORK, "settled 3 5 yes",
+        refused(5, 58, "network"))
+    add("settle-in-the-middle", MAINS + L(1, 1) + S(1) + T() + L(3, 2) + S(1) + D() + L(4, 2) + S(8) + T(),
+        MAINS_NETWORK, "limit 1 1", "settled 1 2 no", "tally 2", "limit 3 2", "settled 1 1 no", "drained",
+        "limit 4 2", "settled 3 4 yes", "tally 4")
+
+    # Over layers: the chamber at junction 2 lets 2 litres pass; feeders bring 3 to junction 0 and take what comes.
+    add("settle-chamber", MAINS + C(2, 2) + S(9) + T() + L(5, 3) + S(9) + T(), "network 5 6", "settled 2 4 yes", "tally 4",
+        "limit 5 3", "settled 1 1 yes", "tally 5")
+    add("settle-feeders", MAINS + I(0, 3) + O(3, None) + S(9) + T() + L(5, 2), "network 6 7", "settled 2 3 yes", "tally 3",
+        refused(6, 73, "gathering"))
+    add("settle-chamber-6", MAINS + C(2, 2) + S(9) + L(5, 1), "network 5 6", "settled 2 4 yes", refused(6, 65, "chambers"))
+    add("settle-many-sources", MAINS + I(0, None) + I(1, 1) + I(2, 1) + O(3, 4) + O(2, 2) + S(2) + S(90) + T())
+
+    # A settling that is cut off, and one that comes too early.
+    add("settle-short", MAINS + S(10)[:-1], refused(12, 53, "reader"))
+    add("settle-late-short", MAINS + D() + S(10)[:-1], MAINS_NETWORK, "drained", refused(12, 54, "reader"))
+    add("settle-then-bad", MAINS + S(10) + b"s", MAINS_NETWORK, "settled 3 5 yes", refused(11, 58, "reader"))
+
+
 def not_carried_out():
-    """The kinds that the program reads, but has no command for."""
-    for kind in "SB":
+    """The kind that the program reads, but has no command for."""
+    for kind in "B":
         add(f"no-command-{kind}", BUILT + WHOLE[kind] + T(), refused(11, 26, "reader"))
         add(f"no-command-after-entries-{kind}", BUILT + C(1, 4) + I(0, 4) + WHOLE[kind] + T(),
             refused(11, 40, "reader"))
         add(f"no-command-late-{kind}", BUILT + L(0, 8) + WHOLE[kind] + T(),
             NETWORK, "limit 0 8", refused(11, 33, "reader"))
-    add("no-command-short-S", BUILT + S(10)[:-1], refused(12, 26, "reader"))
-    add("no-command-late-short-S", BUILT + D() + S(10)[:-1], NETWORK, "drained", refused(12, 27, "reader"))
 
 
 def sizes():
@@ -427,12 +479,14 @@ def random_records(dice):
     entries = random_entries(dice, n)
     records += entries
     reaches += len(entries)
-    for _ in range(dice.below(11)):
-        kind = dice.below(6)
+    for _ in range(dice.below(16)):
+        kind = dice.below(9)
         if kind == 0:
             records.append(D())
         elif kind == 1:
             records.append(T())
+        elif kind < 5:
+            records.append(S(dice.of([0, 1, 2, 3, 1_000_000, 2**32 - 1])))
         else:
             limit = dice.of([dice.below(1_000_001), dice.below(1_000), 1_000_000, 1_000_001, dice.below(2**32)])
             records.append(L(dice.below(reaches + 1 + reaches // 4), limit))
@@ -477,6 +531,7 @@ def main():
     chambers()
     gathering()
     stacks()
+    settlings()
     not_carried_out()
     sizes()
     random_valid()

@@ -7,7 +7,7 @@ import sys
 from pathlib import Path
 
 sys.dont_write_bytecode = True  # leaves no __pycache__ beside the tools
-from drawing import C, D, E, H, I, L, N, O, R, T, report  # noqa: E402
+from drawing import C, D, E, H, I, L, N, O, R, S, T, report  # noqa: E402
 
 TOP = Path(__file__).resolve().parent.parent
 EXAMPLES = TOP / "examples"
@@ -15,7 +15,7 @@ ALLOCATE = TOP / "crates" / "allocate"
 
 
 def headworks():
-    """Headworks, a silt basin, two mains that a link joins, a tail gate. The table is sound, two commands are not."""
+    """Headworks, a silt basin, two mains that a link joins, a tail gate. The table is sound, three commands are not."""
     return b"".join(
         [
             H(8, 0, 7),
@@ -38,11 +38,16 @@ def headworks():
             R(6, 7, 1300),
             R(5, 7, 1600),
             E(),
+            S(2),  # two routes, and more are left
             T(),
-            L(4, 650),
+            S(100),  # until none is left
+            T(),
+            L(4, 650),  # refused: the reach carries more
             L(2, 1_000_001),  # refused: the limit is too high
             L(10, 500),  # refused: the reaches are 0 to 9
             D(),
+            L(4, 650),
+            S(100),
             T(),
         ]
     )
@@ -68,7 +73,7 @@ def refused():
 
 def district():
     """A river weir and a well field feed two cuts. The fork of the main can pass 3,200 litres per second, no more.
-    The rice land takes 1,600 at most, and the tail weir whatever arrives. Three commands are refused.
+    The rice land takes 1,600 at most, and the tail weir whatever arrives. Five commands are refused.
     """
     return b"".join(
         [
@@ -97,14 +102,20 @@ def district():
             I(1, 800),  # reach 12
             O(6, 1600),  # reach 13, to the gathering's outfall, junction 10
             O(7, None),  # reach 14
+            S(1000),
             T(),
-            L(3, 1700),  # a reach of the table
-            L(10, 2900),  # the chamber
-            L(12, 650),  # the feeder of WELLHEAD
+            L(10, 2900),  # refused: the chamber lets more pass
+            L(11, 650),  # refused: the feeder of WEIRGATE carries more
             L(13, 1_000_001),  # refused: the limit of a feeder is too high
             L(10, 1_000_001),  # refused: the limit of the chamber is too high
             L(15, 500),  # refused: the reaches are 0 to 14
             D(),
+            L(3, 1700),  # a reach of the table
+            L(10, 2900),  # the chamber
+            L(12, 650),  # the feeder of WELLHEAD
+            S(2),  # two routes, and more are left
+            T(),
+            S(1000),
             T(),
         ]
     )

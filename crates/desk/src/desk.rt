@@ -1,10 +1,10 @@
-ghost use Rattle.std.specs.Prelude.{◌≡◌, ◌∷◌, length};
+ghost use Rattle.std.specs.Prelude.{◌≡◌, ℕ, ◌∷◌, length};
 ghost use Rattle.std.specs.Iterator.{YieldsFirstBy, item_count};
 ghost use Rattle.drawing.specs.Ahead.{ahead};
 ghost use Rattle.desk.specs.declared.desk.Phase.TheVariants as phases;
 ghost use Rattle.desk.specs.Lines.{line_text, network_line};
 ghost use Rattle.desk.specs.Commands.{asked, asked_as};
-ghost use Rattle.desk.specs.Answering.{opened_lines};
+ghost use Rattle.desk.specs.Answering.{answered, opened_lines};
 ghost use Rattle.desk.specs.Laws.{lines_for};
 ghost use Rattle.desk.specs.Rest.{rest};
 
@@ -15,6 +15,7 @@ use drawing::Reader;
 use network::Network;
 use refusal::{Part, Refusal};
 use routes::Search;
+use std::mem;
 
 // How far a desk has come. (A value, and no closure or type for each step: an iterator has to keep it in a field.)
 #[derive(Clone, Copy)]
@@ -63,7 +64,7 @@ fn network_line<N: Network>(net: &N) -> Line
     }
 }
 
-impl<'a, N: Network, S: Search + Copy> Desk<'a, N, S> {
+impl<'a, N: Network, S: Search + Default + Drop> Desk<'a, N, S> {
     // A desk for the commands that the reader has ahead of it.
     pub fn new(reader: Reader<'a>, network: N, search: S) -> Desk<'a, N, S>
         ensures lines { rest N.meaning N.giver result
@@ -98,13 +99,31 @@ impl<'a, N: Network, S: Search + Copy> Desk<'a, N, S> {
         }
     }
 
+    // The line of a command whose record stands at the place. The search is moved through the call.
+    fn answer(&mut self, command: Command, place: usize) -> Line
+        ensures done { (line_text result, N.meaning self.new.network)
+            ≡ answered command place (N.giver self.old.network) (N.meaning self.old.network) }
+        ensures giver { (j : ℕ) → N.giver self.new.network j ≡ N.giver self.old.network j }
+        ensures reader { self.new.reader ≡ self.old.reader }
+        ensures phase { self.new.phase ≡ self.old.phase }
+    {
+        let (search, line) = carry_out(
+            &mut self.network,
+            mem::take(&mut self.search),
+            command,
+            place,
+        );
+        self.search = search;
+        line
+    }
+
     // The line of the next command, once the network is told.
     fn command(&mut self) -> Option<Line>
         requires { self.old.phase ≡ phases.Commands }
         ensures { YieldsFirstBy line_text (rest N.meaning N.giver) self.old result self.new }
     {
         match next_command(&mut self.reader) {
-            Ok(Some((command, place))) => Some(carry_out(&mut self.network, self.search, command, place)),
+            Ok(Some((command, place))) => Some(self.answer(command, place)),
             Ok(None) => {
                 self.phase = Phase::Over;
                 None
@@ -124,7 +143,7 @@ impl<'a, N: Network, S: Search + Copy> Desk<'a, N, S> {
             Phase::Opening => Some(self.open()),
             Phase::Held { command, place } => {
                 self.phase = Phase::Commands;
-                Some(carry_out(&mut self.network, self.search, command, place))
+                Some(self.answer(command, place))
             }
             Phase::Commands => self.command(),
             Phase::Over => None,
@@ -134,7 +153,7 @@ impl<'a, N: Network, S: Search + Copy> Desk<'a, N, S> {
 
 // The lines, one after the other, up to the last. An iterator can be dropped, and so its network has to be one that can;
 // `next_line` asks no such thing.
-impl<N: Network + Drop, S: Search + Copy> Iterator for Desk<'_, N, S> {
+impl<N: Network + Drop, S: Search + Default + Drop> Iterator for Desk<'_, N, S> {
     type Item = Line;
 
     ghost next_gives = { YieldsFirstBy line_text (rest N.meaning N.giver) };

@@ -1,6 +1,7 @@
-ghost use Rattle.std.specs.Prelude.{Some};
-ghost use Rattle.desk.specs.Lines.{line_text};
+ghost use Rattle.std.specs.Prelude.{◌≡◌, Some};
+ghost use Rattle.desk.specs.Lines.{line_text, settled_line};
 
+use calls::Settled;
 use refusal::Refusal;
 use std::fmt;
 
@@ -23,6 +24,24 @@ pub enum Line {
     Tally(i64),
     // The drawing, or one of its commands, was refused.
     Refused(Refusal),
+}
+
+impl From<Settled> for Line {
+    ghost from_gives = { λ s l. line_text l ≡ settled_line s.routes s.litres s.finished };
+
+    // The line that tells what settling answered.
+    fn from(settled: Settled) -> Line {
+        let Settled {
+            routes,
+            litres,
+            finished,
+        } = settled;
+        Line::Settled {
+            routes,
+            litres,
+            finished,
+        }
+    }
 }
 
 impl fmt::Display for Line {

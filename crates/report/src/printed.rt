@@ -15,7 +15,7 @@ use std::fmt;
 const ROWS: usize = 1024;
 
 // Prints the lines that a desk has still to give.
-fn tell<N: Network + Drop, S: Search + Copy, W: fmt::Write>(
+fn tell<N: Network + Drop, S: Search + Default + Drop, W: fmt::Write>(
     desk: Desk<'_, N, S>,
     f: &mut fmt::Formatter<W>,
 ) -> fmt::Result

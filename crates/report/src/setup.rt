@@ -64,7 +64,7 @@ pub type Stack<'t> = Gathering<Chambers<Table<'t>>>;
 // Reads the table of a drawing into the rows, commissions its network, puts the layers over it, and gives the desk that
 // answers its commands by this search; or the refusal that is then the only line. What the lines are does not depend on the
 // search.
-pub fn open<'a, 't, S: Search + Copy>(
+pub fn open<'a, 't, S: Search + Default + Drop>(
     input: &'a [u8],
     rows: &'t mut [Row],
     search: S,

@@ -6,7 +6,7 @@ use network::Network;
 use routes::{Begun, Route, Search};
 
 // The search, resting.
-#[derive(Clone, Copy, PartialEq, Eq, Debug, Default)]
+#[derive(PartialEq, Eq, Debug, Default, Drop)]
 pub struct BreadthFirst;
 
 // The search, begun. It keeps nothing.

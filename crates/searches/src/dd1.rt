@@ -7,7 +7,7 @@ use network::Network;
 use routes::{Begun, Route, Search, begin_of};
 
 // The search, resting.
-#[derive(Clone, Copy, PartialEq, Eq, Debug, Default)]
+#[derive(PartialEq, Eq, Debug, Default, Drop)]
 pub struct Dd1;
 
 // The search, begun.

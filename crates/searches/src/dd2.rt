@@ -6,7 +6,7 @@ use network::Network;
 use routes::{Begun, OpenSteps, Route, Search, begin_of};
 
 // The search, resting.
-#[derive(Clone, Copy, PartialEq, Eq, Debug, Default)]
+#[derive(PartialEq, Eq, Debug, Default, Drop)]
 pub struct Dd2;
 
 // The search, begun. The pending junctions are to be mended before the next answer.
