@@ -12,6 +12,7 @@ import sys
 from pathlib import Path
 
 sys.dont_write_bytecode = True  # leaves no __pycache__ beside the tools
+import make_examples  # noqa: E402
 from drawing import B, C, D, E, H, I, KINDS, L, MAX_INPUT, N, O, R, S, T, report  # noqa: E402
 
 FOLDER = Path(__file__).resolve().parent.parent / "crates" / "drawings"
@@ -401,6 +402,12 @@ def not_carried_out():
             NETWORK, "limit 0 8", refused(11, 33, "reader"))
 
 
+def examples():
+    """The drawings in examples/."""
+    for make in (make_examples.headworks, make_examples.refused, make_examples.district):
+        add(f"example-{make.__name__}", make())
+
+
 def sizes():
     """Inputs of the greatest length that is read, and one byte over it."""
     # Header 7, 1,024 reaches 9,216, 5,118 names 56,298, end 1, one L 7, seven commands of one byte: 65,536 in all.
@@ -533,6 +540,7 @@ def main():
     stacks()
     settlings()
     not_carried_out()
+    examples()
     sizes()
     random_valid()
     random_damaged()
