@@ -7,6 +7,8 @@ mod layers;
 mod networks;
 #[cfg(test)]
 mod readers;
+#[cfg(test)]
+mod searching;
 
 #[cfg(test)]
 use network::Row;
