@@ -1,5 +1,5 @@
 -- Pushing a route, step by step.
-use Rattle.std.proofs.Common.{◌≡◌, ℕ, zero, suc, ◌+◌, ◌<◌, ◌≤◌, ◌≢◌, min, List, [], ◌∷◌, ◌++◌, length, take, get_or, Some, None, Option, MatchOption, refl, sym, ap, ◌∙◌, subst, arith, add-one}
+use Rattle.std.proofs.Common.{◌≡◌, ℕ, zero, suc, ◌+◌, ◌<◌, ◌≤◌, min, List, [], ◌∷◌, ◌++◌, length, take, get_or, Some, None, Option, MatchOption, refl, sym, ap, ◌∙◌, arith, add-one}
 use Rattle.flow.specs.Net.{Arc}
 use Rattle.flow.specs.Steps.{finishes, headroom, IsOpen}
 use Rattle.flow.specs.Pushes.{least_headroom, shifted, shifted_along}

@@ -29,7 +29,11 @@ fn laid<'a>(
     reaches: &[(u16, u16, u32)],
 ) -> Table<'a> {
     let mut draft = Draft::new(rows);
-    assert!(rt; draft.shape(junctions, 0, junctions.saturating_sub(1)).is_ok());
+    assert!(rt;
+        draft
+            .shape(junctions, 0, junctions.saturating_sub(1))
+            .is_ok()
+    );
     for (tail, head, limit) in reaches {
         assert!(rt; draft.lay(*tail, *head, *limit).is_ok());
     }
@@ -95,11 +99,32 @@ fn a_budget_of_none_still_says_what_is_left(rt: HostRuntime) {
     let mut rows = [BLANK; 5];
     let mut net = laid(&rt, &mut rows, 4, &MAINS);
     let (_, none) = settle(&mut net, Dd2, 0);
-    assert_eq!(rt; none, Settled { routes: 0, litres: 0, finished: false });
+    assert_eq!(rt;
+        none,
+        Settled {
+            routes: 0,
+            litres: 0,
+            finished: false
+        }
+    );
     let (_, all) = settle(&mut net, Dd2, 3);
-    assert_eq!(rt; all, Settled { routes: 3, litres: 5, finished: true });
+    assert_eq!(rt;
+        all,
+        Settled {
+            routes: 3,
+            litres: 5,
+            finished: true
+        }
+    );
     let (_, over) = settle(&mut net, Dd2, 0);
-    assert_eq!(rt; over, Settled { routes: 0, litres: 0, finished: true });
+    assert_eq!(rt;
+        over,
+        Settled {
+            routes: 0,
+            litres: 0,
+            finished: true
+        }
+    );
 }
 
 // Asks a search that was begun over another network; what it answers is free, but it ends.

@@ -9,9 +9,15 @@ use std::fmt;
 #[derive(Clone, Copy)]
 pub enum Line {
     // How many junctions and reaches the network has.
-    Network { junctions: u16, reaches: usize },
+    Network {
+        junctions: u16,
+        reaches: usize,
+    },
     // The limit of a reach was set.
-    Limit { reach: u16, limit: u32 },
+    Limit {
+        reach: u16,
+        limit: u32,
+    },
     // Routes were pushed, and so many litres with them; whether none is left.
     Settled {
         routes: u32,

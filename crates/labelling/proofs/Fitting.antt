@@ -1,5 +1,5 @@
 -- Labels and current steps that fit a network: at the start, after each move at a junction, and after a push.
-use Rattle.std.proofs.Common.{◌≡◌, ℕ, ◌+◌, ◌<◌, ◌≤◌, ◌≢◌, List, Some, sym, ap, ◌∙◌, subst, ⊎_elim, inl, inr, arith}
+use Rattle.std.proofs.Common.{◌≡◌, ℕ, ◌+◌, ◌<◌, ◌≤◌, ◌≢◌, List, Some, sym, ap, subst, ⊎_elim, arith}
 use Rattle.std.specs.List.{All}
 use Rattle.std.proofs.lemmas.Bool.{cases_eq, cases_lt}
 use Rattle.flow.specs.Net.{Net, Shaped}
@@ -10,9 +10,7 @@ use Rattle.flow.specs.Labels.{IsAdmissible, relabelled, ExactLabels}
 use Rattle.flow.proofs.Likeness.{begins-alike}
 use Rattle.flow.proofs.Pushing.{bare-along}
 use Rattle.flow.proofs.Labelling.{IsDescent, relabelled_here, relabelled_there, labels_relabelled, still_elsewhere, labels_pushed, still_pushed, descent_from_admissible}
-use Rattle.routes.specs.declared.step.StepEnd.TheVariants.{Begin}
 use Rattle.routes.specs.declared.step.OpenStep.{OpenStep}
-use Rattle.routes.specs.Ends.{OpensAt}
 use Rattle.routes.specs.Going.{first_step, FirstFrom}
 use Rattle.labelling.specs.Scanning.{AdmissibleAt, OneAbove, NoneOpen, IsRelabel}
 use Rattle.labelling.specs.Standing.{Fits}

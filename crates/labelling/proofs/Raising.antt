@@ -1,15 +1,15 @@
 -- What raising one label does to the labels as numbers.
-use Rattle.std.proofs.Common.{◌≡◌, ℕ, ◌+◌, ◌-◌, ◌<◌, ◌≤◌, ◌≢◌, ◌⊎◌, cond, leb, List, length, get_or, set, ap, inl, inr, ⊎_elim, arith}
+use Rattle.std.proofs.Common.{◌≡◌, ℕ, ◌+◌, ◌<◌, ◌≤◌, ◌≢◌, ◌⊎◌, cond, leb, List, length, get_or, set, inl, inr, ⊎_elim, arith}
 use Rattle.std.proofs.lemmas.Bool.{cases_eq, cases_lt}
 use Rattle.std.proofs.lemmas.Bool.Decides.{nat_tests}
 use Rattle.std.proofs.lemmas.List.{get_or-set_other, get_or_past}
-use Rattle.std.proofs.lemmas.List.Sums.{sum_by-set, count_by-le-length, get_or-le-sum_by}
+use Rattle.std.proofs.lemmas.List.Sums.{sum_by-set, get_or-le-sum_by}
 use Rattle.std.proofs.lemmas.Grind.{get_or-set_at}
 use Rattle.flow.specs.Bounds.{most_junctions}
 use Rattle.flow.specs.Net.{Net, Shaped}
 use Rattle.flow.specs.Steps.{finishes}
 use Rattle.std.specs.Prelude.{slice_index}
-use Rattle.labelling.specs.Heights.{high, Bounded, highest_label, height_left}
+use Rattle.labelling.specs.Heights.{high, Bounded}
 use Rattle.labelling.specs.Scanning.{OneAbove, NoneOpen, IsRelabel}
 
 -- 1 for a label that is as high as the most junctions

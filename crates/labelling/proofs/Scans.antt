@@ -1,16 +1,13 @@
 -- Going over the open steps that begin at a junction.
-use Rattle.std.proofs.Common.{◌≡◌, ℕ, ◌+◌, ◌<◌, ◌≤◌, ◌⊎◌, ◌↔◌, min, List, Some, None, Option, MatchOption, option_map, refl, sym, ap, ◌∙◌, subst, inl, inr, ⊎_elim, arith}
+use Rattle.std.proofs.Common.{◌≡◌, ℕ, ◌+◌, ◌<◌, ◌≤◌, ◌⊎◌, ◌↔◌, min, List, Some, None, Option, MatchOption, ap, ◌∙◌, inl, inr, ⊎_elim, arith}
 use Rattle.std.proofs.lemmas.Bool.{cases_lt}
 use Rattle.flow.specs.Net.{Arc, Net}
-use Rattle.flow.specs.Steps.{begins, finishes}
+use Rattle.flow.specs.Steps.{finishes}
 use Rattle.flow.specs.Routes.{GoesFirst}
-use Rattle.flow.specs.Labels.{IsAdmissible}
 use Rattle.routes.specs.declared.step.StepEnd.TheVariants.{Begin}
-use Rattle.routes.specs.declared.step.OpenStep.{OpenStep}
 use Rattle.routes.specs.Ends.{OpensAt}
-use Rattle.routes.specs.Going.{IsTold, FirstFrom}
 use Rattle.routes.proofs.Passing.{AllPassed, more_passed, all_passed}
-use Rattle.labelling.specs.Scanning.{AdmissibleAt, OneAbove, NoneOpen, IsRelabel}
+use Rattle.labelling.specs.Scanning.{AdmissibleAt, IsRelabel}
 
 -- an admissible step of a junction is an open one
 pub opens_from_admissible : (label : ℕ → ℕ) (rs : List Arc) (v s : ℕ) → AdmissibleAt label rs v s → OpensAt Begin rs v s
@@ -25,17 +22,23 @@ LeastPassed rs label v c (Some least) =
 
 module _ (rs : List Arc) (label : ℕ → ℕ) (v c next x : ℕ) (o : OpensAt Begin rs v x)
     (now : (u : ℕ) → OpensAt Begin rs v u → (GoesFirst u next ↔ GoesFirst u c ⊎ (u ≡ x))) where
-  pub least_more : (least : Option ℕ) (y : ℕ) → MatchOption least (y ≡ label (finishes rs x)) (λ l. y ≡ min l (label (finishes rs x))) →
+  -- the label to which a step leads
+  abbrev far : ℕ → ℕ
+  far s = label (finishes rs s)
+
+  pub least_more : (least : Option ℕ) (y : ℕ) →
+      MatchOption least (y ≡ label (finishes rs x)) (λ l. y ≡ min l (label (finishes rs x))) →
       LeastPassed rs label v c least → LeastPassed rs label v next (Some y)
   least_more None y is h =
-      ((x, o, is), more_passed Begin rs v (λ u. y ≤ label (finishes rs u)) c next x now (λ u p b. absurd (h u p b)) (omega (arith, is)))
-  least_more (Some l) y is h =
-      (⊎_elim (λ (low : l < label (finishes rs x)). (h.0.0, h.0.1, omega (arith, is, h.0.2))) (λ (high : label (finishes rs x) ≤ l). (x, o, omega (arith, is)))
-      (cases_lt l (label (finishes rs x))),
-      more_passed Begin rs v (λ u. y ≤ label (finishes rs u)) c next x now (λ u p b. omega (arith, is, h.1 u p b)) (omega (arith, is)))
+      ((x, o, is), more_passed Begin rs v (λ u. y ≤ far u) c next x now (λ u p b. absurd (h u p b)) (omega (arith, is)))
+  least_more (Some l) y is h = (
+    ⊎_elim (λ (low : l < far x). (h.0.0, h.0.1, omega (arith, is, h.0.2))) (λ (high : far x ≤ l). (x, o, omega (arith, is)))
+        (cases_lt l (far x)),
+    more_passed Begin rs v (λ u. y ≤ far u) c next x now (λ u p b. omega (arith, is, h.1 u p b)) (omega (arith, is)),
+  )
 
-pub least_all : (g : Net) (label : ℕ → ℕ) (v c : ℕ) → ((u : ℕ) → OpensAt Begin g.reaches v u → GoesFirst u c) → (least : Option ℕ) (y : ℕ) →
-    MatchOption least (y ≡ g.junctions) (λ l. y ≡ l + 1) → LeastPassed g.reaches label v c least → IsRelabel g label v y
+pub least_all : (g : Net) (label : ℕ → ℕ) (v c : ℕ) → ((u : ℕ) → OpensAt Begin g.reaches v u → GoesFirst u c) →
+    (least : Option ℕ) (y : ℕ) → MatchOption least (y ≡ g.junctions) (λ l. y ≡ l + 1) → LeastPassed g.reaches label v c least → IsRelabel g label v y
 least_all g label v c none None y is h =
     inr (record { none = λ s o. all_passed Begin g.reaches v (λ u. ⊥) c none h s o; count = is })
 least_all g label v c none (Some l) y is h =

@@ -1,5 +1,5 @@
 -- Labels spread from the outfall against open steps: a queue holds the labelled junctions, in the order of their labels.
-use Rattle.std.proofs.Common.{◌≡◌, ℕ, ◌+◌, ◌<◌, ◌≤◌, ◌≢◌, ◌⊎◌, ◌↔◌, Bool, true, false, eqb, List, [], ◌∷◌, ◌++◌, length, get_or, refl, sym, ap, ◌∙◌, subst, inl, inr, ⊎_elim, arith, length-append}
+use Rattle.std.proofs.Common.{◌≡◌, ℕ, ◌+◌, ◌<◌, ◌≤◌, ◌≢◌, ◌⊎◌, ◌↔◌, true, false, eqb, List, [], ◌∷◌, ◌++◌, length, get_or, refl, sym, ap, ◌∙◌, subst, inl, inr, ⊎_elim, arith, length-append}
 use Rattle.std.specs.List.{Any}
 use Rattle.std.proofs.Math.Seq.{get_or-append_seam}
 use Rattle.std.proofs.Math.ListN.{get_or-append}
@@ -11,7 +11,7 @@ use Rattle.std.proofs.lemmas.Map.Steps.{length-le_from_distinct_below}
 use Rattle.flow.specs.Net.{Net, Shaped}
 use Rattle.flow.specs.Steps.{begins, finishes, IsOpen}
 use Rattle.flow.specs.Routes.{GoesFirst}
-use Rattle.flow.specs.Labels.{Labels, IsAdmissible, relabelled, ExactLabels}
+use Rattle.flow.specs.Labels.{IsAdmissible, relabelled, ExactLabels}
 use Rattle.flow.proofs.Walks.{ends_in}
 use Rattle.flow.proofs.Labelling.{relabelled_here, relabelled_there}
 use Rattle.routes.specs.declared.step.StepEnd.TheVariants.{Finish}
@@ -267,7 +267,10 @@ module _ (g : Net) (shaped : Shaped g) (f : ℕ → ℕ) (q : List ℕ) (i v abo
         label = let kept = old g shaped f q i e.spread e.within x u above here (sym from) blank level i e.within in
             omega (arith, level, kept, ap (relabelled u above f) e.here);
         passed = more_passed Finish g.reaches v (λ t. relabelled u above f (begins g.reaches t) ≤ above) c next x now
-            (λ t p b. omega (arith, e.passed t p b,
-            lower g shaped f q i e.spread e.within x u above here (sym from) blank level (begins g.reaches t)))
+            (λ t p b. omega (
+              arith,
+              e.passed t p b,
+              lower g shaped f q i e.spread e.within x u above here (sym from) blank level (begins g.reaches t),
+            ))
             (omega (arith, relabelled_here f u above (begins g.reaches x) (sym from)));
       })

@@ -1,20 +1,19 @@
 -- A search that walks from the intake: its labels and current steps fit the network, and its walk is along them.
-use Rattle.std.proofs.Common.{◌≡◌, ℕ, ◌+◌, ◌<◌, ◌≤◌, ◌≢◌, List, [], ◌∷◌, ◌++◌, length, Some, None, refl, sym, ap, ◌∙◌, subst, inl, inr, ⊎_elim, arith}
+use Rattle.std.proofs.Common.{◌≡◌, ℕ, ◌+◌, ◌<◌, ◌≢◌, List, [], ◌∷◌, ◌++◌, length, Some, None, sym, ap, ◌∙◌, subst, inl, inr, ⊎_elim, arith}
 use Rattle.std.proofs.lemmas.Bool.{cases_eq}
 use Rattle.flow.specs.Net.{Net, Shaped}
-use Rattle.flow.specs.Steps.{begins, finishes}
-use Rattle.flow.specs.Routes.{IsWalk, GoesFirst, Finished, IsFirst}
+use Rattle.flow.specs.Routes.{IsWalk, GoesFirst, IsFirst}
 use Rattle.flow.specs.Pushes.{pushed}
 use Rattle.flow.specs.Labels.{relabelled, ExactLabels}
 use Rattle.flow.proofs.Walks.{open_in}
 use Rattle.flow.proofs.Labelling.{relabelled_here, relabelled_there}
 use Rattle.routes.specs.declared.step.OpenStep.{OpenStep}
 use Rattle.routes.specs.Going.{first_step, BeginTold}
-use Rattle.routes.specs.Routing.{most_steps, Pushed, Popped}
+use Rattle.routes.specs.Routing.{most_steps, Popped}
 use Rattle.labelling.specs.declared.labelling.Labelling.{Labelling}
 use Rattle.labelling.specs.Keeping.{label_of, current_of}
 use Rattle.labelling.specs.Scanning.{AdmissibleAt, IsRelabel}
-use Rattle.labelling.specs.Moving.{Advanced, Raised, NotRaised, Relabelled}
+use Rattle.labelling.specs.Moving.{Advanced, Raised, Relabelled}
 use Rattle.labelling.specs.Standing.{Fits}
 use Rattle.labelling.specs.Following.{OnlyAdvanced}
 use Rattle.labelling.proofs.Fitting.{fits_advanced, raises, fits_raised, fits_pushed}
@@ -37,8 +36,13 @@ module _ (g : Net) (x y : Labelling) (v : ℕ) (s : OpenStep) (told : Advanced g
   -- the label falls by 1
   pub label_falls : label_of x v ≡ label_of y s.finish + 1
   label_falls =
-      omega (arith, ap (λ (f : ℕ → ℕ). f s.finish) told.1.0, ap (label_of x) told.0.0.finish, ap (label_of x) told.0.1.there,
-      told.0.1.admissible.falls)
+      omega (
+        arith,
+        ap (λ (f : ℕ → ℕ). f s.finish) told.1.0,
+        ap (label_of x) told.0.0.finish,
+        ap (label_of x) told.0.1.there,
+        told.0.1.admissible.falls,
+      )
 
   pub only_on : (was : Labelling) → OnlyAdvanced g.reaches was x → OnlyAdvanced g.reaches was y
   only_on was only = record {
@@ -99,9 +103,11 @@ module _ (g : Net) (shaped : Shaped g) (x : Labelling) (ss : List ℕ) (v : ℕ)
           let n = rw none.1 at r in
           let low = walking_length g (label_of x) ss v h.walking in
           let inside = walking_in g (label_of x) ss v h.walking shaped in
-          omega (arith, higher n.label n.relabel, n.why (omega (arith, inside, shaped.few)) (omega (arith, low, below, shaped.few)))
+          let most = n.why (omega (arith, inside, shaped.few)) (omega (arith, low, below, shaped.few)) in
+          omega (arith, higher n.label n.relabel, most)
 
-      fits_then : Raised g y v z → (c : ℕ) × (label_of x v < c) × (label_of z ≡ relabelled v c (label_of x)) × Fits g (label_of z) (current_of z)
+      fits_then : Raised g y v z →
+          (c : ℕ) × (label_of x v < c) × (label_of z ≡ relabelled v c (label_of x)) × Fits g (label_of z) (current_of z)
       fits_then r =
           let n = rw none.1 at r in
           let up = higher n.label n.relabel in
@@ -109,7 +115,8 @@ module _ (g : Net) (shaped : Shaped g) (x : Labelling) (ss : List ℕ) (v : ℕ)
             n.label,
             up,
             n.labels,
-            fits_told g (relabelled v n.label (label_of x)) (label_of z) (relabelled v first_step (current_of x)) (current_of z) n.labels n.again then,
+            fits_told g (relabelled v n.label (label_of x)) (label_of z) (relabelled v first_step (current_of x)) (current_of z)
+                n.labels n.again then,
           )
 
       -- the walk retreats by its last step, where it has one

@@ -9,7 +9,6 @@ use Rattle.routes.specs.Routing.{steps_of}
 use Rattle.labelling.specs.declared.labelling.Labelling.{Labelling}
 use Rattle.labelling.specs.Keeping.{label_of, current_of}
 use Rattle.labelling.specs.Scanning.{AdmissibleAt}
-use Rattle.labelling.specs.Standing.{Fits}
 
 -- each junction has the label that it had, and as current step the one that it had or an admissible one
 pub record OnlyAdvanced (rs : List Arc) (x y : Labelling) : Type 0 where

@@ -1,7 +1,7 @@
 -- What is looked for among the open steps that begin at a junction.
 use Rattle.std.specs.Prelude.{◌≡◌, ℕ, ◌+◌, ◌≤◌, ◌⊎◌, List}
 use Rattle.flow.specs.Net.{Arc, Net}
-use Rattle.flow.specs.Steps.{begins, finishes, IsOpen}
+use Rattle.flow.specs.Steps.{begins, finishes}
 use Rattle.flow.specs.Labels.{IsAdmissible}
 use Rattle.routes.specs.declared.step.StepEnd.TheVariants.{Begin}
 use Rattle.routes.specs.Ends.{OpensAt}

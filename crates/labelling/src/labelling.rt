@@ -20,10 +20,7 @@ impl Labelling {
         ensures value { result ≡ label_of self.now junction }
         ensures low { result ≤ highest_label }
     {
-        self.labels
-            .get(usize::from(junction))
-            .copied()
-            .unwrap_or(0)
+        self.labels.get(usize::from(junction)).copied().unwrap_or(0)
     }
 
     // The current step of a junction: those that go before it need not be looked at. 0 for a number that is none.

@@ -1,18 +1,18 @@
 -- The open steps at a junction go along the reaches that touch it, and along each reach there is at most one.
-use Rattle.std.proofs.Common.{◌≡◌, ℕ, ◌+◌, ◌*◌, ◌/◌, ◌<◌, ◌≤◌, ◌≢◌, ◌⊎◌, ◌↔◌, Bool, true, false, List, length, Some, None, refl, sym, ap, ◌∙◌, subst, inl, inr, ⊎_elim, arith}
+use Rattle.std.proofs.Common.{◌≡◌, ℕ, ◌+◌, ◌*◌, ◌/◌, ◌<◌, ◌≤◌, ◌≢◌, ◌⊎◌, ◌↔◌, Bool, true, false, List, Some, None, refl, sym, ap, ◌∙◌, subst, inl, inr, ⊎_elim, arith}
 use Rattle.std.specs.List.{All}
 use Rattle.std.proofs.lemmas.List.Elements.{All-get_or}
 use Rattle.std.proofs.lemmas.Bool.{cases_eq, cases_lt}
 use Rattle.std.proofs.lemmas.Bool.Decides.{nat_tests}
 use Rattle.flow.specs.Net.{Arc, no_arc, arc_at, Joined}
-use Rattle.flow.specs.Steps.{along_reach, goes_back, arc_of, begins, finishes}
+use Rattle.flow.specs.Steps.{along_reach, goes_back, arc_of}
 use Rattle.flow.specs.Routes.{GoesFirst}
 use Rattle.flow.proofs.Walks.{open_in}
-use Rattle.network.specs.Touching.{Touches, NoneFrom, Touched}
+use Rattle.network.specs.Touching.{Touches, Touched}
 use Rattle.routes.specs.declared.step.StepEnd.{StepEnd}
 use Rattle.routes.specs.declared.step.StepEnd.TheVariants.{Begin, Finish}
 use Rattle.routes.specs.declared.step.OpenStep.{OpenStep}
-use Rattle.routes.specs.Ends.{end_at_way, end_at, OpensAt}
+use Rattle.routes.specs.Ends.{end_at_way, OpensAt}
 use Rattle.routes.specs.Going.{TheOpen, FirstFrom}
 
 -- a reach touches the ends of its steps
@@ -63,13 +63,20 @@ module _ (n : ℕ) (rs : List Arc) (joined : All (Joined n) rs) (e : StepEnd) (v
 
       pub passed_now : c ≤ first → (u : ℕ) → OpensAt e rs v u →
           (GoesFirst u (2 * k + 2) ↔ GoesFirst u c ⊎ (u ≡ x.number))
-      passed_now onward u o = (just_passed u o, λ h. ⊎_elim (λ (b : GoesFirst u c). let f = touched.0 in omega arith)
-          (λ (same : u ≡ x.number). let there : x.number / 2 ≡ k = is.2 in omega arith) h)
+      passed_now onward u o = (
+        just_passed u o,
+        λ h. ⊎_elim (λ (b : GoesFirst u c). let f = touched.0 in omega arith)
+            (λ (same : u ≡ x.number). let there : x.number / 2 ≡ k = is.2 in omega arith) h,
+      )
 
       pub first_given : c ≤ first → first ≤ x.number → FirstFrom (OpensAt e rs v) rs c (Some x)
-      first_given onward from =
-          (is.0, is.1, λ b. omega arith, λ u o b. ⊎_elim (λ (low : GoesFirst u c). low) (λ (same : u ≡ x.number). absurd (omega arith))
-          (just_passed u o (let there : x.number / 2 ≡ k = is.2 in omega arith)))
+      first_given onward from = (
+        is.0,
+        is.1,
+        λ b. omega arith,
+        λ u o b. ⊎_elim (λ (low : GoesFirst u c). low) (λ (same : u ≡ x.number). absurd (omega arith))
+            (just_passed u o (let there : x.number / 2 ≡ k = is.2 in omega arith)),
+      )
 
   -- and where no other reach touches it, there is no other step
   pub none_left : (c first : ℕ) → ((t : ℕ) → OpensAt e rs v t → GoesFirst t first → GoesFirst t c) →

@@ -1,5 +1,5 @@
 -- Going through the steps at a junction, in their order.
-use Rattle.std.specs.Prelude.{◌≡◌, ℕ, ◌-◌, ◌*◌, ◌≤◌, ◌⊎◌, ◌↔◌, List, length, Some, None, Option, ⊤, MatchOption}
+use Rattle.std.specs.Prelude.{◌≡◌, ℕ, ◌-◌, ◌*◌, ◌≤◌, ◌⊎◌, ◌↔◌, List, length, Some, None, Option, ⊤}
 use Rattle.std.specs.Iterator.{Count, at_most}
 use Rattle.flow.specs.Net.{Arc, Net}
 use Rattle.flow.specs.Steps.{along_reach, begins, finishes}

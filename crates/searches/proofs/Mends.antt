@@ -1,9 +1,9 @@
 -- Mending one junction: its first admissible step is found, or its label is raised.
-use Rattle.std.proofs.Common.{◌≡◌, ℕ, ◌+◌, ◌<◌, ◌≤◌, ◌≢◌, ◌⊎◌, ◌↔◌, List, Some, refl, sym, ap, ◌∙◌, subst, inl, inr, ⊎_elim, arith}
+use Rattle.std.proofs.Common.{◌≡◌, ℕ, ◌<◌, ◌≤◌, ◌≢◌, ◌⊎◌, ◌↔◌, List, Some, sym, ap, ◌∙◌, subst, inl, inr, ⊎_elim, arith}
 use Rattle.std.specs.List.{All}
 use Rattle.std.proofs.lemmas.Bool.{cases_eq}
 use Rattle.flow.specs.Net.{Net, Shaped}
-use Rattle.flow.specs.Steps.{begins, finishes, IsOpen}
+use Rattle.flow.specs.Steps.{begins, finishes}
 use Rattle.flow.specs.Routes.{IsRoute}
 use Rattle.flow.specs.Pushes.{least_headroom, pushed}
 use Rattle.flow.specs.Labels.{IsAdmissible, relabelled, ExactLabels}
@@ -21,17 +21,17 @@ use Rattle.labelling.specs.Moving.{Advanced, Raised}
 use Rattle.labelling.specs.Standing.{Fits}
 use Rattle.labelling.specs.Following.{OnlyAdvanced}
 use Rattle.labelling.proofs.Fitting.{fits_raised}
-use Rattle.labelling.proofs.Stands.{fits_on, fits_told}
+use Rattle.labelling.proofs.Stands.{fits_told}
 use Rattle.searches.specs.declared.dd2.BegunDd2.{BegunDd2}
 use Rattle.searches.specs.Waiting.{IsPending}
 use Rattle.searches.specs.Mending.{KeepsSteps, InStep}
 
 -- what is kept, told by the labelling that it is
 pub fits_but : (g : Net) (x : BegunDd2) (y : Labelling) → y ≡ x.kept → Fits g (label_of y) (current_of y) →
-    KeepsSteps g (label_of y) (current_of y) (λ u. IsPending x.pending u ⊎ ⊥) → InStep x g
+    KeepsSteps g (label_of y) (current_of y) (IsPending x.pending) → InStep x g
 fits_but g x y same fits steps = record {
   fits = subst (λ (z : Labelling). Fits g (label_of z) (current_of z)) same fits;
-  steps = subst (λ (z : Labelling). KeepsSteps g (label_of z) (current_of z) (λ u. IsPending x.pending u ⊎ ⊥)) same steps;
+  steps = subst (λ (z : Labelling). KeepsSteps g (label_of z) (current_of z) (IsPending x.pending)) same steps;
 }
 
 -- more junctions are left out
@@ -41,11 +41,10 @@ steps_less g label current Out More more steps = record { has = λ v low ne less
 
 -- one junction less is pending, and is left out
 pub steps_taken : (g : Net) (label current : ℕ → ℕ) (Out Rest : ℕ → Type 0) (v : ℕ) → ((u : ℕ) → Rest u ↔ Out u × (u ≢ v)) →
-    KeepsSteps g label current (λ u. Out u ⊎ ⊥) → KeepsSteps g label current (λ u. Rest u ⊎ (u ≡ v))
+    KeepsSteps g label current Out → KeepsSteps g label current (λ u. Rest u ⊎ (u ≡ v))
 steps_taken g label current Out Rest v rest =
-    steps_less g label current (λ u. Out u ⊎ ⊥) (λ u. Rest u ⊎ (u ≡ v)) (λ u o. ⊎_elim
-    (λ (out : Out u). ⊎_elim (λ (same : u ≡ v). inr same) (λ (ne : u ≢ v). inl ((rest u).1 (out, ne))) (cases_eq u v))
-    (λ (no : ⊥). absurd no) o)
+    steps_less g label current Out (λ u. Rest u ⊎ (u ≡ v)) (λ u out. ⊎_elim (λ (same : u ≡ v). inr same)
+    (λ (ne : u ≢ v). inl ((rest u).1 (out, ne))) (cases_eq u v))
 
 -- where none is left out, labels are exact
 pub steps_exact : (g : Net) (label current : ℕ → ℕ) (Out : ℕ → Type 0) → ((v : ℕ) → ¬ Out v) → Fits g label current →

@@ -13,18 +13,23 @@ pub record KeepsSteps (g : Net) (label current : ℕ → ℕ) (Out : ℕ → Typ
   pub has : (v : ℕ) → v < g.junctions → v ≢ g.outfall → label v < g.junctions → ¬ Out v →
       AdmissibleAt label g.reaches v (current v)
 
--- labels and current steps fit the network, and a junction that is not pending, nor left out, has its first admissible step
+-- labels and current steps fit the network, and each junction keeps its first admissible step, but for those left out
 pub record FitsBut (g : Net) (x : BegunDd2) (Out : ℕ → Type 0) : Type 0 where
   pub fits : Fits g (label_of x.kept) (current_of x.kept)
-  pub steps : KeepsSteps g (label_of x.kept) (current_of x.kept) (λ v. IsPending x.pending v ⊎ Out v)
+  pub steps : KeepsSteps g (label_of x.kept) (current_of x.kept) Out
 
+-- the pending junctions alone are left out
 abbrev pub InStep : BegunDd2 → Net → Type 0
-InStep x g = FitsBut g x (λ v. ⊥)
+InStep x g = FitsBut g x (IsPending x.pending)
+
+-- and so is one junction more
+abbrev pub InStepBut : Net → BegunDd2 → ℕ → Type 0
+InStepBut g x v = FitsBut g x (λ u. IsPending x.pending u ⊎ (u ≡ v))
 
 -- once a junction is mended it is left out no longer; mending gives up out of step only
 abbrev pub Mends : Net → BegunDd2 → ℕ → Option Unit → BegunDd2 → Type 0
-Mends g x v (Some _) y = FitsBut g x (λ u. u ≡ v) → InStep y g
-Mends g x v None y = ¬ FitsBut g x (λ u. u ≡ v)
+Mends g x v (Some _) y = InStepBut g x v → InStep y g
+Mends g x v None y = ¬ InStepBut g x v
 
 -- all that is pending is mended
 abbrev pub Mended : Net → BegunDd2 → Option Unit → BegunDd2 → Type 0

@@ -1,6 +1,5 @@
-use Rattle.std.proofs.Common.{◌≡◌, ℕ, ◌+◌, ◌≤◌, ◌<◌, length, take, get_or, Some, sym, ap, subst, arith, rules}
+use Rattle.std.proofs.Common.{◌<◌, length, take, get_or, Some, sym, subst, rules}
 use Rattle.std.proofs.lemmas.List.{take_more}
-use Rattle.flow.specs.Bounds.{highest_limit}
 use Rattle.routes.specs.Routing.{steps_of}
 use Rattle.calls.proofs.Shifting.{LeastOf, least_of_more}
 use Rattle.calls.proofs.pushing.least_on.Goals as goal

@@ -1,4 +1,4 @@
-use Rattle.std.proofs.Common.{◌≡◌, ◌<◌, length, sym, ap, ◌∙◌}
+use Rattle.std.proofs.Common.{◌<◌, length, sym, ap, ◌∙◌}
 use Rattle.flow.specs.Changes.{with_reaches}
 use Rattle.flow.proofs.Pushing.{can_take}
 use Rattle.flow.proofs.Machining.{shortest_apart}

@@ -1,11 +1,10 @@
-use Rattle.std.proofs.Common.{◌≡◌, ◌∙◌, ℕ, ◌<◌, ◌≤◌, length, sym, ap, subst, arith, rules, length-set}
+use Rattle.std.proofs.Common.{◌∙◌, ℕ, ◌<◌, ◌≤◌, length, sym, ap, subst, arith, rules, length-set}
 use Rattle.std.specs.Prelude.{slice_index}
-use Rattle.flow.specs.Steps.{begins}
 use Rattle.flow.specs.Labels.{ExactLabels}
 use Rattle.flow.proofs.Walks.{ends_in}
 use Rattle.network.specs.declared.size.Size.{Size}
 use Rattle.labelling.proofs.Sets.{relabelled_from_set}
-use Rattle.labelling.proofs.Spreading.{spread_exact, short, entered, entering_known, entering_room, entering_more}
+use Rattle.labelling.proofs.Spreading.{spread_exact, short, entering_known, entering_room, entering_more}
 use Rattle.labelling.proofs.labelling.Labelling.exact.Goals as goal
 
 pub bounds-labels-place : goal.bounds-labels-place

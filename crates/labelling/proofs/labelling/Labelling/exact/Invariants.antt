@@ -1,8 +1,6 @@
-use Rattle.std.proofs.Common.{◌≡◌, ℕ, ◌+◌, ◌-◌, ◌<◌, ◌≤◌, length, get_or}
+use Rattle.std.proofs.Common.{◌≡◌, ◌-◌, length}
 use Rattle.std.specs.Prelude.{slice_index}
-use Rattle.flow.specs.Steps.{begins}
 use Rattle.routes.specs.declared.step.StepEnd.TheVariants.{Finish}
-use Rattle.routes.proofs.Passing.{AllPassed}
 use Rattle.labelling.proofs.Spreading.{Spread, Entering}
 use Rattle.labelling.proofs.labelling.Labelling.exact.Given as goal
 

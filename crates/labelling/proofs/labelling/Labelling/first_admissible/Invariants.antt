@@ -1,4 +1,4 @@
-use Rattle.std.proofs.Common.{◌≡◌, ℕ}
+use Rattle.std.proofs.Common.{◌≡◌}
 use Rattle.flow.specs.Routes.{GoesFirst}
 use Rattle.flow.specs.Labels.{IsAdmissible}
 use Rattle.routes.specs.declared.step.StepEnd.TheVariants.{Begin}

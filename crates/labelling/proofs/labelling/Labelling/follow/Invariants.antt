@@ -1,4 +1,4 @@
-use Rattle.std.proofs.Common.{◌≡◌, ℕ, ◌<◌}
+use Rattle.std.proofs.Common.{◌<◌}
 use Rattle.routes.specs.Routing.{steps_of}
 use Rattle.labelling.specs.Keeping.{label_of, current_of}
 use Rattle.labelling.specs.Standing.{Fits}

@@ -18,5 +18,6 @@ loop-step-preserved g c =
       net = ap (λ r. r.now) next.net ∙ i.net;
       junction = next.junction ∙ i.junction;
       end = next.end ∙ i.end;
-      least = least_more rs label c.args.junction c.loop-step.step-iterator.next c.next.new.self.next step.number first.1 passed c.loop-step.least c.map_or.result (search rules) i.least;
+      least = least_more rs label c.args.junction c.loop-step.step-iterator.next c.next.new.self.next step.number first.1 passed
+          c.loop-step.least c.map_or.result (search rules) i.least;
     }

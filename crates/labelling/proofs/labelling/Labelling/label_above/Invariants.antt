@@ -1,8 +1,5 @@
-use Rattle.std.proofs.Common.{◌≡◌, ℕ, ◌≤◌, MatchOption}
-use Rattle.flow.specs.Steps.{finishes}
+use Rattle.std.proofs.Common.{◌≡◌}
 use Rattle.routes.specs.declared.step.StepEnd.TheVariants.{Begin}
-use Rattle.routes.specs.Ends.{OpensAt}
-use Rattle.routes.proofs.Passing.{AllPassed}
 use Rattle.labelling.specs.Keeping.{label_of}
 use Rattle.labelling.proofs.Scans.{LeastPassed}
 use Rattle.labelling.proofs.labelling.Labelling.label_above.Given as goal

@@ -17,7 +17,8 @@ returns-in-Some-clause-steps g c =
       net = i.net;
       junction = i.junction;
       end = i.end;
-      first = first_given net.junctions net.reaches joined was.end was.junction was.next first k i.passed touched step is i.onward (omega (arith, c.from.ensures));
+      first = first_given net.junctions net.reaches joined was.end was.junction was.next first k i.passed touched step is i.onward
+          (omega (arith, c.from.ensures));
       passed = passed_now net.junctions net.reaches joined was.end was.junction was.next first k i.passed touched step is i.onward;
     }
 
@@ -31,6 +32,7 @@ returns-clause-steps g c =
       net = i.net;
       junction = i.junction;
       end = i.end;
-      first = none_left net.junctions net.reaches (g.N.Network.sound was.net.now).shaped.joined was.end was.junction was.next c.loop-k.self.next i.passed touched;
+      first = none_left net.junctions net.reaches (g.N.Network.sound was.net.now).shaped.joined was.end was.junction was.next
+          c.loop-k.self.next i.passed touched;
       passed = tt;
     }

@@ -1,4 +1,4 @@
-use Rattle.std.proofs.Common.{◌≡◌, ◌≤◌, ◌≢◌, ℕ, Some, None, sym, ap, ◌∙◌, arith}
+use Rattle.std.proofs.Common.{◌≤◌, ℕ, sym, ap, ◌∙◌, arith}
 use Rattle.flow.proofs.Finding.{high_finished}
 use Rattle.network.specs.declared.size.Size.{Size}
 use Rattle.routes.specs.Routing.{steps_of}

@@ -1,6 +1,5 @@
-use Rattle.std.proofs.Common.{subst, arith}
+use Rattle.std.proofs.Common.{arith}
 use Rattle.flow.proofs.Walks.{ends_in}
-use Rattle.searches.specs.Waiting.{IsPending}
 use Rattle.searches.proofs.dd2.BegunDd2.add_begin.Goals as goal
 
 pub returns-in-Some-clause-begin : goal.returns-in-Some-clause-begin

@@ -1,4 +1,4 @@
-use Rattle.std.proofs.Common.{◌≡◌, ◌∙◌, ap, sym, arith}
+use Rattle.std.proofs.Common.{◌≡◌, ◌∙◌, ap, arith}
 use Rattle.flow.specs.Steps.{begins}
 use Rattle.flow.proofs.Walks.{ends_in}
 use Rattle.routes.specs.declared.step.StepEnd.TheVariants.{Finish}

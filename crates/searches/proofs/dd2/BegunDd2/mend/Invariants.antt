@@ -1,4 +1,3 @@
-use Rattle.std.proofs.Common.{ℕ}
 use Rattle.searches.specs.Mending.{InStep, work_left}
 use Rattle.searches.proofs.dd2.BegunDd2.mend.Given as goal
 

@@ -1,11 +1,10 @@
-use Rattle.std.proofs.Common.{◌≡◌, ◌≢◌, ◌⊎◌, ℕ, sym, ap, ◌∙◌, subst, inl}
+use Rattle.std.proofs.Common.{sym, ap, ◌∙◌, subst}
 use Rattle.network.specs.declared.size.Size.{Size}
 use Rattle.labelling.specs.declared.labelling.Labelling.{Labelling}
-use Rattle.labelling.specs.Keeping.{label_of, current_of}
 use Rattle.labelling.specs.Moving.{Raised}
 use Rattle.labelling.proofs.Stands.{fits_on}
 use Rattle.searches.specs.Waiting.{IsPending}
-use Rattle.searches.proofs.Mends.{fits_but, steps_less, steps_found, steps_raised, mends_raised}
+use Rattle.searches.proofs.Mends.{fits_but, steps_found, steps_raised, mends_raised}
 use Rattle.searches.proofs.dd2.BegunDd2.mend_at.Goals as goal
 
 pub returns-in_default-clause-mends : goal.returns-in_default-clause-mends
@@ -17,8 +16,7 @@ returns-in_default-clause-mends g c = λ h.
     let told = c.in_default.ensures.told in
     record {
       fits = fits_on n x.kept y c.args.at step told h.fits;
-      steps = steps_less n (label_of y) (current_of y) (IsPending x.pending) (λ u. IsPending x.pending u ⊎ ⊥) (λ u p. inl p)
-          (steps_found n x.kept c.args.at (IsPending x.pending) h.steps y step told);
+      steps = steps_found n x.kept c.args.at (IsPending x.pending) h.steps y step told;
     }
 
 pub returns-clause-mends : goal.returns-clause-mends
@@ -34,5 +32,4 @@ returns-clause-mends g c = λ h.
     let fits = mends_raised n shaped x.kept z c.args.at h.fits (λ same. c.if-at-size.false (same ∙ sym out)) raised in
     let steps = steps_raised n x.kept c.args.at (IsPending x.pending) h.steps z raised (IsPending after.pending) e.grows
     (e.here c.requires) e.followers in
-    fits_but n after z (sym e.kept) fits
-    (steps_less n (label_of z) (current_of z) (IsPending after.pending) (λ u. IsPending after.pending u ⊎ ⊥) (λ u p. inl p) steps)
+    fits_but n after z (sym e.kept) fits steps

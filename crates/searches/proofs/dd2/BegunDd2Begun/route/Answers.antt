@@ -1,4 +1,4 @@
-use Rattle.std.proofs.Common.{◌≡◌, ◌⊎◌, ℕ, sym, ap, subst, inl, ⊎_elim}
+use Rattle.std.proofs.Common.{ℕ, sym, subst}
 use Rattle.std.specs.List.{All}
 use Rattle.flow.specs.Steps.{begins}
 use Rattle.flow.specs.Labels.{IsAdmissible}
@@ -17,9 +17,8 @@ returns-in_err-route g c = λ h. rw c.from_residual-in_err-route.ensures (
     let y = c.follow.new.self in
     let mended = c.in_ok-mend.ensures in
     let then = mended.0 h in
-    let Out : ℕ → Type 0 = λ u. IsPending x.pending u ⊎ ⊥ in
-    let none : (u : ℕ) → ¬ Out u = λ u o. ⊎_elim (mended.1 u) (λ (no : ⊥). no) o in
-    let exact = steps_exact n (label_of x.kept) (current_of x.kept) Out none then.fits then.steps in (
+    let Out = IsPending x.pending in
+    let exact = steps_exact n (label_of x.kept) (current_of x.kept) Out mended.1 then.fits then.steps in (
       c.in_err-route.ensures.found then.fits exact,
       record { fits = c.in_err-route.ensures.fits then.fits; steps = steps_followed n x.kept y Out c.in_err-route.ensures.only then.steps },
     ))
@@ -32,20 +31,18 @@ returns g c = λ h.
     let after = c.add_begins.new.self in
     let mended = c.in_ok-mend.ensures in
     let then = mended.0 h in
-    let Out : ℕ → Type 0 = λ u. IsPending x.pending u ⊎ ⊥ in
-    let Now : ℕ → Type 0 = λ u. IsPending after.pending u ⊎ ⊥ in
-    let none : (u : ℕ) → ¬ Out u = λ u o. ⊎_elim (mended.1 u) (λ (no : ⊥). no) o in
-    let exact = steps_exact n (label_of x.kept) (current_of x.kept) Out none then.fits then.steps in
+    let Out = IsPending x.pending in
+    let Now = IsPending after.pending in
+    let exact = steps_exact n (label_of x.kept) (current_of x.kept) Out mended.1 then.fits then.steps in
     let e = c.in_ok-route.ensures in
     let a = c.add_begins.ensures in
     let ss = steps_of c.in_ok-route.route in
     let found = e.found then.fits exact in
     let fits = e.fits then.fits in
-    let steps = steps_less n (label_of y) (current_of y) Out Now
-    (λ u o. ⊎_elim (λ (p : IsPending x.pending u). inl (a.grows u p)) (λ (no : ⊥). absurd no) o)
+    let steps = steps_less n (label_of y) (current_of y) Out Now a.grows
     (steps_followed n x.kept y Out e.only then.steps) in
     let all = subst (λ (f : ℕ → ℕ). All (IsAdmissible f n.reaches) ss) (sym e.only.labels) found.1 in
-    let begun : All (λ s. Now (begins n.reaches s)) ss = λ i d low. inl (a.begins i d low (found.1 i d low).opens) in
+    let begun : All (λ s. Now (begins n.reaches s)) ss = λ i d low. a.begins i d low (found.1 i d low).opens in
     let route = found.0.shortest.route in
     let kept = sym a.kept in (
       found.0,

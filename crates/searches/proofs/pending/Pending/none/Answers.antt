@@ -1,4 +1,4 @@
-use Rattle.std.proofs.Common.{◌≡◌, ℕ, List, [], length, replicate, false, sym, ap, ◌∙◌, subst}
+use Rattle.std.proofs.Common.{ℕ, List, length, replicate, false, sym, ap, ◌∙◌, subst}
 use Rattle.searches.proofs.Listed.{Once, once_none, counted_none}
 use Rattle.searches.proofs.pending.Pending.none.Goals as goal
 
