@@ -1,0 +1,27 @@
+use std::fmt;
+
+// A checksum of numbers in their order.
+#[derive(Clone, Copy)]
+pub struct Checksum(u64);
+
+impl Checksum {
+    // Of no number.
+    pub fn new() -> Checksum {
+        Checksum(0)
+    }
+
+    // With one number more.
+    pub fn add(&mut self, number: u64) {
+        self.0 = self
+            .0
+            .wrapping_mul(1_000_003)
+            .wrapping_add(number)
+            .wrapping_add(1);
+    }
+}
+
+impl fmt::Display for Checksum {
+    fn fmt<W: fmt::Write>(&self, f: &mut fmt::Formatter<W>) -> fmt::Result {
+        write!(f, "{:016x}", self.0)
+    }
+}

@@ -1,0 +1,18 @@
+// Comparing networks with each other.
+use network::{Network, Reach, Reaches};
+
+// Whether two reaches have the same four numbers.
+fn is_same_reach(one: Reach, other: Reach) -> bool {
+    one.tail == other.tail
+        && one.head == other.head
+        && one.limit == other.limit
+        && one.carried == other.carried
+}
+
+// Whether two networks are the same: their sizes, and every reach with what it carries.
+pub fn are_same_networks<N: Network>(one: &N, other: &N) -> bool {
+    one.size() == other.size()
+        && Reaches::of(one)
+            .zip(Reaches::of(other))
+            .all(|(a, b)| is_same_reach(a, b))
+}

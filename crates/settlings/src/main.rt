@@ -1,0 +1,39 @@
+// Makes many networks, as dice draw them. Settles each by the call `settle`, under each of the three searches, and route
+// by route, asking all three for each route and pushing it here. Prints what was found, and whether all agreed.
+// tools/make_settlings.py makes the same lines by a model of its own, and compares them with a solver made elsewhere.
+#![tactic(auto)]
+
+mod changing;
+mod checksum;
+mod comparing;
+mod copies;
+mod dice;
+mod drawing;
+mod ends;
+mod figures;
+mod form;
+mod laying;
+mod making;
+mod out;
+mod pushing;
+mod stepping;
+mod three;
+mod trying;
+
+use copies::CopyRows;
+use form::NETWORKS;
+use out::Out;
+use std::io;
+use trying::try_network;
+
+fn main(rt: HostRuntime) -> io::Result<()> {
+    let mut out = Out::new(rt.alloc(), rt.stdout())?;
+    let mut rows = CopyRows::new();
+    for number in 0..NETWORKS {
+        match try_network(number, &mut rows) {
+            Ok(trial) => writeln!(out, "{trial}"),
+            Err(refusal) => writeln!(out, "{number}: {refusal}"),
+        }
+    }
+    out.end()
+}
