@@ -1,7 +1,7 @@
 -- What settlings and bottlenecks answer: one answer each.
-use Rattle.std.proofs.Common.{◌≡◌, ℕ, ◌<◌, ◌≤◌, ◌⊎◌, Bool, true, false, List, [], ◌∷◌, map, length, get_or, ◌==◌, refl, sym, ap, ◌∙◌, subst, inl, inr, arith}
+use Rattle.std.proofs.Common.{◌≡◌, ℕ, ◌<◌, ◌≤◌, ◌⊎◌, Bool, true, false, List, [], ◌∷◌, ◌++◌, length, get_or, ◌==◌, refl, sym, ap, ◌∙◌, subst, inl, inr, arith, length-append}
+use Rattle.std.proofs.Math.ListN.{get_or-append}
 use Rattle.std.specs.Prelude.{IsTrue, ◌↔◌}
-use Rattle.std.specs.List.{range_with_len}
 use Rattle.std.proofs.lemmas.List.FromFn.{length-map-range_with_len, get_or-map-range_with_len}
 use Rattle.std.proofs.lemmas.Bool.{false≢true}
 use Rattle.std.proofs.lemmas.Bool.Decides.{nat_tests, same_from_decides}
@@ -9,9 +9,8 @@ use Rattle.flow.specs.Net.{Net, Shaped}
 use Rattle.flow.specs.Routes.{Finished, Reached, IsFirst}
 use Rattle.flow.specs.Pushes.{pushed_all, litres_of}
 use Rattle.flow.specs.Cuts.{Side, cut_sum, crossing_count, IsBottleneck}
-use Rattle.flow.specs.Histories.{Outcome, IsSettling, marked, IsMarked}
+use Rattle.flow.specs.Histories.{Outcome, IsSettling, marked, mark, marks_of, IsMarked}
 use Rattle.flow.specs.HistoryLaws.{HistoryLaws}
-use Rattle.flow.proofs.Sums.{tick, tick-le}
 use Rattle.flow.proofs.Likeness.{Shaped-alike}
 use Rattle.flow.proofs.Besting.{cut_sum-same, crossing_count-same}
 use Rattle.flow.proofs.Finding.{bottleneck_found, first_found}
@@ -68,42 +67,51 @@ settling_found g budget shaped =
       record { settles = settles; counts = refl; adds = refl; tells = tells },
     )
 
--- marks of a side
-abbrev marks_of : Side → ℕ → List ℕ
-marks_of near n = map (λ v. tick (near v)) (range_with_len 0 n)
+-- marks of a side, with any marks behind them
+pub marks_of-length : (near : Side) (n : ℕ) → length (marks_of near n) ≡ n
+marks_of-length near n = length-map-range_with_len (λ u. mark (near u)) 0 n
 
-marks_of-at : (near : Side) (n v : ℕ) → v < n → get_or (marks_of near n) v 0 ≡ tick (near v)
-marks_of-at near n v low = get_or-map-range_with_len (λ u. tick (near u)) 0 n v v 0 low (omega arith)
+marks_of-at : (near : Side) (n : ℕ) (later : List ℕ) (v : ℕ) → v < n → get_or (marks_of near n ++ later) v 0 ≡ mark (near v)
+marks_of-at near n later v low =
+    get_or-append (marks_of near n) later 0 v (omega (arith, marks_of-length near n))
+    ∙ get_or-map-range_with_len (λ u. mark (near u)) 0 n v v 0 low (omega arith)
 
-tick-one : (b : Bool) → (tick b == 1) ≡ b
-tick-one true = refl
-tick-one false = refl
+mark-le : (b : Bool) → mark b ≤ 1
+mark-le true = omega arith
+mark-le false = omega arith
+
+mark-one : (b : Bool) → (mark b == 1) ≡ b
+mark-one true = refl
+mark-one false = refl
+
+-- where no route exists, the marks of a side that is the bottleneck's tell it
+module _ (g : Net) (near : Side) (later : List ℕ) (shaped : Shaped g) (is : IsBottleneck g near) where
+  abbrev marks : List ℕ
+  marks = marks_of near g.junctions ++ later
+
+  side : (v : ℕ) → v < g.junctions → marked marks v ≡ near v
+  side v low = ap (λ (x : ℕ). x == 1) (marks_of-at near g.junctions later v low) ∙ mark-one (near v)
+
+  pub marks_tell : Finished g → IsMarked g (marks_of near g.junctions ++ later) (cut_sum near g.reaches)
+      (crossing_count near g.reaches)
+  marks_tell finished = record {
+    finished = finished;
+    long = omega (arith, length-append (marks_of near g.junctions) later, marks_of-length near g.junctions);
+    bits = λ v low. omega (arith, marks_of-at near g.junctions later v low, mark-le (near v));
+    near = λ v low. let same = side v low in (λ e. (is v low).0 (sym same ∙ e), λ r. same ∙ (is v low).1 r);
+    sums = sym (cut_sum-same (marked marks) near g.junctions g.reaches shaped.joined side);
+    counts = sym (crossing_count-same (marked marks) near g.junctions g.reaches shaped.joined side);
+  }
 
 marking_found : (g : Net) → Shaped g → Finished g →
     (marks : List ℕ) × (sum : ℕ) × (crossing : ℕ) × IsMarked g marks sum crossing
-marking_found g shaped finished = either (bottleneck_found g shaped)
-  where
-    either : (near : Side) × IsBottleneck g near →
-        (marks : List ℕ) × (sum : ℕ) × (crossing : ℕ) × IsMarked g marks sum crossing
-    either (near, is) = (
-      marks,
-      cut_sum (marked marks) g.reaches,
-      crossing_count (marked marks) g.reaches,
-      record {
-        finished = finished;
-        long = omega (arith, length-map-range_with_len (λ u. tick (near u)) 0 g.junctions);
-        bits = λ v low. omega (arith, marks_of-at near g.junctions v low, tick-le (near v));
-        near = λ v low. let same = side v low in (λ e. (is v low).0 (sym same ∙ e), λ r. same ∙ (is v low).1 r);
-        sums = refl;
-        counts = refl;
-      },
+marking_found g shaped finished =
+    let (near, is) = bottleneck_found g shaped in (
+      marks_of near g.junctions ++ [],
+      cut_sum near g.reaches,
+      crossing_count near g.reaches,
+      marks_tell g near [] shaped is finished,
     )
-      where
-        marks : List ℕ
-        marks = marks_of near g.junctions
-
-        side : (v : ℕ) → v < g.junctions → marked marks v ≡ near v
-        side v low = ap (λ (x : ℕ). x == 1) (marks_of-at near g.junctions v low) ∙ tick-one (near v)
 
 -- two answers of a bottleneck are the same
 one_bit : (x y : ℕ) → x ≤ 1 → y ≤ 1 → (x == 1) ≡ (y == 1) → x ≡ y

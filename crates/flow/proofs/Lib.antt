@@ -22,3 +22,4 @@ pub mod Answering
 pub mod Lawful
 pub mod Checking
 pub mod Deciding
+pub mod Marking

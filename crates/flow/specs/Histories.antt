@@ -1,5 +1,6 @@
 -- What calls do to a network, one after another, and what they answer.
-use Rattle.std.specs.Prelude.{◌≡◌, ℕ, ◌+◌, ◌<◌, ◌≤◌, Bool, IsTrue, ◌↔◌, List, [], ◌∷◌, ◌++◌, length, All, ℤ, slice_index, ◌==◌, ⊤}
+use Rattle.std.specs.Prelude.{◌≡◌, ℕ, ◌+◌, ◌<◌, ◌≤◌, Bool, cond, IsTrue, ◌↔◌, List, [], ◌∷◌, ◌++◌, map, length, All, ℤ, slice_index, ◌==◌, ⊤}
+use Rattle.std.specs.List.{range_with_len}
 use Rattle.flow.specs.Bounds.{highest_setting}
 use Rattle.flow.specs.Net.{Net, Shaped, arc_at}
 use Rattle.flow.specs.Flows.{delivered}
@@ -51,6 +52,13 @@ pub record IsSettling (g : Net) (budget : ℕ) (routes : List (List ℕ)) (answe
 -- a junction marked 1 is near
 abbrev pub marked : List ℕ → Side
 marked marks v = slice_index marks v == 1
+
+-- the marks of the junctions 0 to n − 1, in their order: 1 where the junction is near, 0 where it is far
+abbrev pub mark : Bool → ℕ
+mark near = cond near 1 0
+
+abbrev pub marks_of : Side → ℕ → List ℕ
+marks_of near n = map (λ v. mark (near v)) (range_with_len 0 n)
 
 -- a bottleneck is answered where no route exists: the first n marks are 1 for its near junctions and 0 for the others,
 -- and its sum and the number of crossing reaches are told

@@ -8,6 +8,8 @@ pub mod Pushes
 pub mod Cuts
 pub mod Labels
 pub mod Histories
+pub mod Bottlenecks
+pub mod BottleneckLaws
 pub mod Promises
 pub mod HistoryLaws
 pub mod Laws

@@ -7,6 +7,7 @@ ghost use Rattle.flow.specs.RouteLaws.{RouteLaws, PushLaws, RunsBounded, Machine
 ghost use Rattle.flow.specs.CutLaws.{CutLaws};
 ghost use Rattle.flow.specs.LabelLaws.{LabelLaws};
 ghost use Rattle.flow.specs.HistoryLaws.{HistoryLaws};
+ghost use Rattle.flow.specs.BottleneckLaws.{BottleneckLaws};
 ghost use Rattle.flow.specs.Promises.{PromiseKept};
 ghost use Rattle.flow.specs.Cases.{WorkedCases, WorkedHistory};
 
@@ -97,6 +98,13 @@ pub fn labelling_stands() -> u8
 // A settling has one answer, and so has the bottleneck; a history goes on call by call.
 pub fn history_stands() -> u8
     ensures { HistoryLaws }
+{
+    0
+}
+
+// There is one near side of the bottleneck, as a function, and one list of marks that tells it.
+pub fn one_bottleneck_stands() -> u8
+    ensures { BottleneckLaws }
 {
     0
 }
