@@ -21,6 +21,9 @@ pub record SettledAs (g : Net) (budget : ℕ) (s : Settled) (after : Net) : Type
 abbrev pub OneSettling : Type 0
 OneSettling = (budget : ℕ) (g : Net) → Shaped g → IsSettling g budget (settling_of budget g).0 (settling_of budget g).1
 
--- the answer of the one settling, and the network that it leaves
+-- the routes of the one settling; its answer, and the network that it leaves
+abbrev pub routes_settled : ℕ → Net → List (List ℕ)
+routes_settled budget g = (settling_of budget g).0
+
 abbrev pub after_settling : ℕ → Net → Outcome × Net
-after_settling budget g = ((settling_of budget g).1, pushed_all (settling_of budget g).0 g)
+after_settling budget g = ((settling_of budget g).1, pushed_all (routes_settled budget g) g)

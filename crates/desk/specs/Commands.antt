@@ -9,12 +9,13 @@ use Rattle.drawing.specs.Ahead.{Drawn, item, end, refused}
 use Rattle.desk.specs.declared.command.Command.{Command}
 use Rattle.desk.specs.declared.command.Command.TheVariants as command
 
--- the command that a record gives; bottlenecks are read, but have none yet
+-- the command that a record gives, if it gives one
 abbrev pub command_of : Said → Option Command
 command_of (limit k q) = Some (command.Limit k q)
 command_of (settle b) = Some (command.Settle b)
 command_of drain = Some command.Drain
 command_of tally = Some command.Tally
+command_of bottleneck = Some command.Bottleneck
 command_of (shape n i o) = None
 command_of (name j s p) = None
 command_of (reach t h q) = None
@@ -22,7 +23,6 @@ command_of table_end = None
 command_of (chamber j q) = None
 command_of (source j q) = None
 command_of (sink j q) = None
-command_of bottleneck = None
 
 -- the command, if there is one; else the letter of the record is a byte that is not allowed
 abbrev pub allowed : Option Command → Result Command Fault

@@ -1,10 +1,13 @@
 -- The lines that the program prints, each without its end.
-use Rattle.std.specs.Prelude.{ℕ, Bool, cond, List, [], ◌∷◌, ◌++◌, ℤ, Some, None, Ok, Err, Option, Result, codes, decimal}
+use Rattle.std.specs.Prelude.{ℕ, ◌+◌, Bool, cond, List, [], ◌∷◌, ◌++◌, ℤ, Some, None, Ok, Err, Option, Result, codes, decimal}
 use Rattle.std.specs.Fmt.{signed_decimal}
 use Rattle.refusal.specs.declared.Part.{Part}
 use Rattle.refusal.specs.declared.Refusal.{Refusal}
 use Rattle.refusal.specs.Numbers.{number_of}
 use Rattle.refusal.specs.Texts.{refusal_text}
+use Rattle.flow.specs.Net.{Arc}
+use Rattle.flow.specs.Cuts.{Side, crosses}
+use Rattle.naming.specs.Names.{Naming, shown}
 use Rattle.desk.specs.declared.line.Line.{Line}
 use Rattle.desk.specs.declared.line.Line.TheVariants as line
 
@@ -33,6 +36,18 @@ drained_line = codes "drained"
 abbrev pub tally_line : ℤ → List ℕ
 tally_line d = codes "tally " ++ signed_decimal d
 
+-- bottleneck SUM
+abbrev pub bottleneck_line : ℕ → List ℕ
+bottleneck_line sum = codes "bottleneck " ++ decimal sum
+
+-- across REACH TAIL HEAD LIMIT; TAIL and HEAD are junctions as they are shown
+abbrev pub across_text : ℕ → List ℕ → List ℕ → ℕ → List ℕ
+across_text k tail head q =
+    codes "across " ++ (decimal k ++ (codes " " ++ (tail ++ (codes " " ++ (head ++ (codes " " ++ decimal q))))))
+
+abbrev pub across_line : Naming → ℕ → Arc → List ℕ
+across_line names k r = across_text k (shown names r.tail) (shown names r.head) r.limit
+
 -- refused NUMBER at PLACE in PART
 abbrev pub refused_line : ℕ → ℕ → Part → List ℕ
 refused_line number place part = refusal_text number (Some place) part
@@ -57,6 +72,12 @@ Lines = List (List ℕ)
 abbrev pub text : Lines → List ℕ
 text [] = []
 text (l ∷ ls) = (l ++ (10 ∷ [])) ++ text ls
+
+-- a line for each reach of a list that crosses a cut, in their order; the first of the list is reach k
+abbrev pub across_lines : Naming → Side → ℕ → List Arc → Lines
+across_lines names near k [] = []
+across_lines names near k (r ∷ rs) =
+    cond (crosses near r) (across_line names k r ∷ []) [] ++ across_lines names near (k + 1) rs
 
 -- a record at the place p that is refused with a number by a part, or these lines where it is not
 abbrev pub refusable : Option (ℕ × Part) → ℕ → Lines → Lines

@@ -12,6 +12,7 @@ pub enum Command {
     Settle { budget: u32 },
     Drain,
     Tally,
+    Bottleneck,
 }
 
 impl TryFrom<Record<'_>> for Command {
@@ -26,6 +27,7 @@ impl TryFrom<Record<'_>> for Command {
             Record::Settle { budget } => Ok(Command::Settle { budget }),
             Record::Drain => Ok(Command::Drain),
             Record::Tally => Ok(Command::Tally),
+            Record::Bottleneck => Ok(Command::Bottleneck),
             _ => Err(Fault::ByteNotAllowed),
         }
     }

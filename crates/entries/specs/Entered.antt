@@ -11,6 +11,7 @@ use Rattle.chambers.specs.Entering.{chamber_checks, chamber_reach}
 use Rattle.gathering.specs.declared.role.Role.{Role}
 use Rattle.gathering.specs.declared.role.Role.TheVariants.{Source, Sink}
 use Rattle.gathering.specs.Entering.{Feeders, no_feeders, listed, with_feeder, feeder, gather_checks}
+use Rattle.naming.specs.Names.{Naming}
 use Rattle.drawing.specs.Records.{Said, shape, name, reach, table_end, chamber, source, sink, limit, settle, drain, bottleneck, tally}
 use Rattle.drawing.specs.Ahead.{Drawn, item, end, refused}
 use Rattle.desk.specs.Lines.{Lines, refusable}
@@ -47,13 +48,13 @@ feed_at (Some e) p g fs next other =
 feed_at None p g fs next other = other
 
 -- sources and sinks, and then the commands, over the network with all of them
-abbrev pub then_commands : Drawn → Net → (ℕ → Part) → Feeders → Lines
-then_commands d g giver fs = opened_lines (asked d) (layer_giver parts.Gathering g giver) (gathered g (listed fs))
+abbrev pub then_commands : Naming → Drawn → Net → (ℕ → Part) → Feeders → Lines
+then_commands names d g giver fs = opened_lines names (asked d) (layer_giver parts.Gathering g giver) (gathered g (listed fs))
 
-abbrev pub feeder_lines : Drawn → Net → (ℕ → Part) → Feeders → Lines
-feeder_lines (item p a rest) g giver fs = feed_at (feed_in a) p g fs (feeder_lines rest g giver) (then_commands (item p a rest) g giver fs)
-feeder_lines (end p) g giver fs = then_commands (end p) g giver fs
-feeder_lines (refused e) g giver fs = then_commands (refused e) g giver fs
+abbrev pub feeder_lines : Naming → Drawn → Net → (ℕ → Part) → Feeders → Lines
+feeder_lines names (item p a rest) g giver fs = feed_at (feed_in a) p g fs (feeder_lines names rest g giver) (then_commands names (item p a rest) g giver fs)
+feeder_lines names (end p) g giver fs = then_commands names (end p) g giver fs
+feeder_lines names (refused e) g giver fs = then_commands names (refused e) g giver fs
 
 -- the chamber that a record enters: its junction and its limit
 abbrev pub chamber_in : Said → Option (ℕ × ℕ)
@@ -78,11 +79,11 @@ chamber_at (Some e) p g own next other =
 chamber_at None p g own next other = other
 
 -- chambers, and then sources and sinks, over the network with all chambers
-abbrev pub then_feeders : Drawn → Net → (ℕ → Part) → List Arc → Lines
-then_feeders d g giver own = feeder_lines d (chambered g own) (layer_giver parts.Chambers g giver) no_feeders
+abbrev pub then_feeders : Naming → Drawn → Net → (ℕ → Part) → List Arc → Lines
+then_feeders names d g giver own = feeder_lines names d (chambered g own) (layer_giver parts.Chambers g giver) no_feeders
 
-abbrev pub chamber_lines : Drawn → Net → (ℕ → Part) → List Arc → Lines
-chamber_lines (item p a rest) g giver own =
-    chamber_at (chamber_in a) p g own (chamber_lines rest g giver) (then_feeders (item p a rest) g giver own)
-chamber_lines (end p) g giver own = then_feeders (end p) g giver own
-chamber_lines (refused e) g giver own = then_feeders (refused e) g giver own
+abbrev pub chamber_lines : Naming → Drawn → Net → (ℕ → Part) → List Arc → Lines
+chamber_lines names (item p a rest) g giver own =
+    chamber_at (chamber_in a) p g own (chamber_lines names rest g giver) (then_feeders names (item p a rest) g giver own)
+chamber_lines names (end p) g giver own = then_feeders names (end p) g giver own
+chamber_lines names (refused e) g giver own = then_feeders names (refused e) g giver own
