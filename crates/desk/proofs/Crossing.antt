@@ -1,10 +1,10 @@
 -- The lines of the reaches that cross a cut.
-use Rattle.std.proofs.Common.{◌≡◌, ℕ, zero, suc, ◌+◌, ◌-◌, ◌<◌, ◌≤◌, Bool, true, false, cond, List, [], ◌∷◌, ◌++◌, length, drop, get_or, refl, sym, ap, ◌∙◌, subst, arith, add-one, drop-cons, length-drop, ⊎_elim}
+use Rattle.std.proofs.Common.{◌≡◌, ℕ, zero, suc, ◌+◌, ◌-◌, ◌<◌, ◌≤◌, Bool, true, false, cond, List, [], ◌∷◌, ◌++◌, length, drop, get_or, refl, sym, ap, ◌∙◌, subst, arith, add-one, drop-cons, ⊎_elim}
 use Rattle.std.specs.Prelude.{IsTrue}
 use Rattle.std.specs.List.{All}
 use Rattle.std.proofs.lemmas.List.Elements.{All-head, All-tail}
 use Rattle.std.proofs.lemmas.Bool.{cases_Bool, cases_lt}
-use Rattle.std.proofs.lemmas.List.{nil_from_length}
+use Rattle.std.proofs.lemmas.List.{drop_all}
 use Rattle.flow.specs.Net.{Arc, Net, no_arc, arc_at, Joined}
 use Rattle.flow.specs.Cuts.{Side, crosses}
 use Rattle.network.specs.Touching.{NoneFrom}
@@ -66,9 +66,7 @@ module _ (names : Naming) (near : Side) (rs : List Arc) where
   pub none_left : (k : ℕ) → NoneFrom Crosses rs k (length rs) → lines_from k ≡ []
   none_left k none = ⊎_elim
       (λ (low : k < length rs).
-      skipped (length rs - k) k (length rs) (omega arith) (omega arith) none ∙ ap (across_lines names near (length rs)) (past (length rs) (omega arith)))
-      (λ (end : length rs ≤ k). ap (across_lines names near k) (past k end))
+      skipped (length rs - k) k (length rs) (omega arith) (omega arith) none
+      ∙ ap (across_lines names near (length rs)) (drop_all (length rs) rs (omega arith)))
+      (λ (end : length rs ≤ k). ap (across_lines names near k) (drop_all k rs end))
       (cases_lt k (length rs))
-    where
-      past : (j : ℕ) → length rs ≤ j → drop j rs ≡ []
-      past j end = nil_from_length (drop j rs) (omega (arith, length-drop j rs))
