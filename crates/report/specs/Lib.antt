@@ -1,3 +1,5 @@
 pub mod Reported
 pub mod Laws
+pub mod Described
+pub mod Accounts
 pub mod Setups
