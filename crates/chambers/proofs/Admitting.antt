@@ -93,6 +93,22 @@ map_twice f h k [] same = refl
 map_twice f h k (r ∷ rs) same =
     cc (All-head (λ r. f r ≡ h (k r)) r rs same, map_twice f h k rs (All-tail (λ r. f r ≡ h (k r)) r rs same))
 
+-- chambers that fit a network fit it still with one more that no check is against
+pub fit_more : (g : Net) (own : List Arc) (v q : ℕ) → Chambering g.junctions (length g.reaches) own →
+    first_of (chamber_checks g own v q) ≡ None →
+    Chambering g.junctions (length g.reaches) (own ++ (chamber_reach g own v q ∷ []))
+fit_more g own v q fit ok =
+    let new = chamber_reach g own v q in
+    let a = admitted g own v q ok in
+    record {
+      small = omega (arith, length_push own new, a.small);
+      short = omega (arith, length_push own new, a.short);
+      each = each_push (ChamberArc g.junctions) own new fit.each (a.inside, refl, omega arith, omega (arith, a.low));
+      alone = each_push (λ _ r. twin_of (own ++ (new ∷ [])) r.tail ≡ Some r.head) own new
+          (λ e low. twin_kept own new (arc_at own e).tail (arc_at own e).head (fit.alone e low))
+          (twin_new own new a.lone);
+    }
+
 -- x is the layer before the entry of a chamber at v with limit q, and y the extended network in it after the entry
 module _ {N : Type 0} {R : Ghosts N} (x : Chambers N R) (v q : ℕ)
     (ok : first_of (chamber_checks (R.meaning x.extended.below) (own_arcs x.extended.own) v q) ≡ None)
@@ -127,14 +143,7 @@ module _ {N : Type 0} {R : Ghosts N} (x : Chambers N R) (v q : ℕ)
 
   -- the chambers still fit, and the array with the new twin tells the twins
   pub fit_entered : Chambering (R.meaning y.below).junctions (length (R.meaning y.below).reaches) (own_arcs y.own)
-  fit_entered = rw (same, mine) (record {
-    small = omega (arith, length_push own new, a.small);
-    short = omega (arith, length_push own new, a.short);
-    each = each_push (ChamberArc n) own new x.fit.each (a.inside, refl, omega arith, omega (arith, a.low));
-    alone = each_push (λ _ r. twin_of more r.tail ≡ Some r.head) own new
-        (λ e low. twin_kept own new (arc_at own e).tail (arc_at own e).head (x.fit.alone e low))
-        (twin_new own new a.lone);
-  })
+  fit_entered = rw (same, mine) (fit_more g own v q x.fit ok)
 
   pub told_entered : (i : ℕ) (o : Option ℕ) → i ≡ v → o ≡ Some (x.extended.base.junctions + length own) → length x.twins ≡ 512 →
       (w : ℕ) → w < 512 → get_or (set x.twins i o) w None ≡ twin_of (own_arcs y.own) w

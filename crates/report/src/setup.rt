@@ -9,6 +9,8 @@ ghost use Rattle.drawing.specs.Ahead.{ahead, drawn};
 ghost use Rattle.desk.specs.Lines.{refusal_line};
 ghost use Rattle.report.specs.Reported.{draft_lines, reported};
 ghost use Rattle.report.specs.Laws.{ToldOnce};
+ghost use Rattle.report.specs.Accounts.{Accounted};
+ghost use Rattle.report.specs.Standing.{StandsFirm};
 ghost use Rattle.report.specs.Setups.{Entered, table_lines};
 ghost use Rattle.desk.specs.Rest.{rest};
 
@@ -86,6 +88,8 @@ pub fn open<'a, 't, S: Search + Default + Drop>(
     ensures lines { reported (places_in rows.old) input.now
         ≡ elim result [ Ok d ↦ rest gathering_net gathering_giver d | Err e ↦ refusal_line e ∷ [] ] }
     ensures once { ToldOnce (drawn input.now) (reported (places_in rows.old) input.now) }
+    ensures account { Accounted (drawn input.now) (reported (places_in rows.old) input.now) }
+    ensures stands { StandsFirm (drawn input.now) (reported (places_in rows.old) input.now) }
 {
     let mut reader = Reader::open(input)?;
     let mut draft = Draft::new(rows);

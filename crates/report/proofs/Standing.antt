@@ -1,0 +1,206 @@
+-- Behind a settling that finished, tallies and bottlenecks tell the most that can be delivered.
+use Rattle.std.proofs.Common.{◌≡◌, ℕ, ◌≢◌, List, [], ◌∷◌, ◌++◌, length, pos, refl, sym, ap, ◌∙◌, subst, ⊎_elim, true, arith}
+use Rattle.std.specs.Prelude.{ℤ, ◌≤ℤ◌}
+use Rattle.std.specs.List.{All}
+use Rattle.std.proofs.lemmas.Bool.{both_ways, false≢true}
+use Rattle.std.proofs.lemmas.Int.{ints}
+use Rattle.std.proofs.lemmas.List.Elements.{All-nil, All-cons, All-head, All-tail, All-append, All-weaker}
+use Rattle.flow.specs.Net.{Net, Shaped}
+use Rattle.flow.specs.Flows.{delivered, IsFlow}
+use Rattle.flow.specs.Changes.{Alike}
+use Rattle.flow.specs.Routes.{Finished, IsFirst}
+use Rattle.flow.specs.Pushes.{pushed_all, EachPushed, litres_of}
+use Rattle.flow.specs.RouteLaws.{IsRaised}
+use Rattle.flow.specs.Cuts.{cut_sum, IsBest}
+use Rattle.flow.specs.Bottlenecks.{near_of}
+use Rattle.flow.specs.Histories.{Event, settling, limit_change, draining, tally, bottleneck, reading, refusal, after_call, after_calls, marked, Happens, IsHistory}
+use Rattle.flow.proofs.Besting.{best_cut}
+use Rattle.flow.proofs.Lasting.{Lasting, lasting, IsHistory-before, IsHistory-behind}
+use Rattle.flow.proofs.Likeness.{Shaped-alike}
+use Rattle.flow.proofs.Machining.{shortest_from_first, raised_all}
+use Rattle.flow.proofs.Marking.{near_of-is}
+use Rattle.network.specs.declared.row.Row.{Row}
+use Rattle.table.specs.Laid.{places_in}
+use Rattle.drawing.specs.Ahead.{drawn}
+use Rattle.desk.specs.Lines.{Lines, tally_line, bottleneck_line, network_line}
+use Rattle.report.specs.Laws.{is_refusal}
+use Rattle.report.specs.Accounts.{OneRefusal, TellsCalls, Account, AccountsFor}
+use Rattle.report.specs.Described.{described}
+use Rattle.report.specs.Reported.{reported}
+use Rattle.report.proofs.Accounting.{accounted}
+use Rattle.report.specs.Standing.{SaysFinished, is_limit, is_drained, is_tally, is_bottleneck, Undisturbed, Relimited, Agrees, Stands, StandsFirm}
+use Rattle.report.proofs.Limits.{limits_set, alike_limits, relimited_once}
+use Rattle.report.proofs.Bytes.{first_byte, across_byte, refusal_byte, no_tally_byte, no_bottleneck_byte}
+use Rattle.report.proofs.Splitting.{overlap, All-left, All-right, nothing_behind, IsAcross, Says, headed, Cut, cut_at}
+
+-- ---- lines that agree with an amount
+
+-- a line that begins neither with a t nor with a b
+other_agrees : (amount : ℕ) (l : List ℕ) → first_byte l ≢ 116 → first_byte l ≢ 98 → Agrees amount l
+other_agrees amount l t b = (
+  λ is. absurd (both_ways (is_tally l) (no_tally_byte l t) is),
+  λ is. absurd (both_ways (is_bottleneck l) (no_bottleneck_byte l b) is),
+)
+
+across_agrees : (amount : ℕ) (l : List ℕ) → IsAcross l → Agrees amount l
+across_agrees amount l is =
+    let a = across_byte l is in
+    other_agrees amount l (λ t. let z : ⊥ = omega (arith, a, t) in z) (λ b. let z : ⊥ = omega (arith, a, b) in z)
+
+refusal_agrees : (amount : ℕ) (l : List ℕ) → is_refusal l ≡ true → Agrees amount l
+refusal_agrees amount l is =
+    let r = refusal_byte l is in
+    other_agrees amount l (λ t. let z : ⊥ = omega (arith, r, t) in z) (λ b. let z : ⊥ = omega (arith, r, b) in z)
+
+-- ---- a finished network that delivers the amount
+
+module _ (amount : ℕ) (g : Net) (shaped : Shaped g) (flow : IsFlow g) (finished : Finished g) (is : delivered g ≡ pos amount) where
+  -- no settling pushes a route
+  none_pushed : (routes : List (List ℕ)) → EachPushed IsFirst g routes → pushed_all routes g ≡ g
+  none_pushed [] firsts = refl
+  none_pushed (ss ∷ more) firsts = absurd (finished ss firsts.0.shortest.route)
+
+  -- a call that is told by a line with no limit and no draining leaves the network, and its line agrees
+  still : (e : Event) (l : List ℕ) → Says e l → Undisturbed l → Happens e g → (after_call e g ≡ g) × Agrees amount l
+  still (settling budget routes answer) l says calm h = (
+    none_pushed routes h.settles.firsts,
+    other_agrees amount l (λ t. let z : ⊥ = omega (arith, ap first_byte says, t) in z)
+        (λ b. let z : ⊥ = omega (arith, ap first_byte says, b) in z),
+  )
+  still (limit_change k q) l says calm h = absurd (both_ways (is_limit l) calm.0 (ap is_limit says))
+  still draining l says calm h = absurd (both_ways (is_drained l) calm.1 (ap is_drained says))
+  still (tally answer) l says calm h = (
+    refl,
+    (
+      λ _. says ∙ ap tally_line (h ∙ is),
+      λ b. absurd (false≢true (sym (ap is_bottleneck says) ∙ b)),
+    ),
+  )
+  still (bottleneck marks sum crossing) l says calm h =
+      let best = best_cut g (marked marks) shaped flow finished h.near in
+      let same : sum ≡ amount = omega (arith, ints, h.sums, best.tight, is) in (
+        refl,
+        (
+          λ t. absurd (false≢true (sym (ap is_tally says) ∙ t)),
+          λ _. says ∙ ap bottleneck_line same,
+        ),
+      )
+  still refusal l says calm h = (refl, refusal_agrees amount l says)
+  still reading l says calm h = absurd says
+
+  -- and so do all of them
+  all_agree : (events : List Event) (between later ls : Lines) → TellsCalls events ls → ls ≡ between ++ later →
+      IsHistory events g → All Undisturbed between → All (Agrees amount) between
+  all_agree events [] later ls tells are history calm = All-nil (Agrees amount)
+  all_agree [] (b ∷ bs) later ls tells are history calm = ⊎_elim
+      (λ (none : ls ≡ []). absurd (nothing_behind [] b (bs ++ later) (sym are ∙ none)))
+      (λ (r : OneRefusal ls). alone r.0 (sym are ∙ r.1) r.2)
+      tells
+    where
+      alone : (r : List ℕ) → b ∷ (bs ++ later) ≡ r ∷ [] → is_refusal r ≡ true → All (Agrees amount) (b ∷ bs)
+      alone r e refuses = last bs cc
+        where
+          same : r ≡ b
+          same = cc
+
+          last : (xs : Lines) → xs ++ later ≡ [] → All (Agrees amount) (b ∷ xs)
+          last [] none =
+              All-cons (Agrees amount) b [] (refusal_agrees amount b (ap is_refusal (sym same) ∙ refuses)) (All-nil (Agrees amount))
+          last (x ∷ xs) none = absurd (nothing_behind [] x (xs ++ later) none)
+  all_agree (e ∷ es) (b ∷ bs) later ls (now, others, are, told, more) is' history calm =
+      let h = headed e now told in
+      let whole : b ∷ (bs ++ later) ≡ h.line ∷ (h.across ++ others) = sym is' ∙ are ∙ ap (λ (x : Lines). x ++ others) h.are in
+      let same : h.line ≡ b = cc in
+      let here = still e b (subst (Says e) same h.says) (All-head Undisturbed b bs calm) history.0 in
+      let rest = All-tail Undisturbed b bs calm in
+      let on : IsHistory es g = subst (IsHistory es) here.0 history.1 in
+      let crossing = All-weaker IsAcross (Agrees amount) (across_agrees amount) h.across h.each in
+      All-cons (Agrees amount) b bs here.1 (⊎_elim
+      (λ (o : (c : Lines) × (bs ≡ h.across ++ c) × (c ++ later ≡ others)).
+      let calm' = All-right Undisturbed h.across o.0 (subst (All Undisturbed) o.1 rest) in
+      subst (All (Agrees amount)) (sym o.1)
+      (All-append (Agrees amount) h.across o.0 crossing (all_agree es o.0 later others more (sym o.2) on calm')))
+      (λ (o : (c : Lines) × (h.across ≡ bs ++ c) × (later ≡ c ++ others)).
+      All-left (Agrees amount) bs o.0 (subst (All (Agrees amount)) o.1 crossing))
+      (overlap bs later h.across others cc))
+
+-- ---- all together
+
+account_stands : (start : Net) (answers before : Lines) (l : List ℕ) (between later : Lines) → Account start answers →
+    answers ≡ before ++ (l ∷ (between ++ later)) → SaysFinished l → All Undisturbed between → Stands start before between
+account_stands start answers before l between later a are says calm = record {
+  scheme = limits_set cut.earlier start;
+  limits = limits;
+  only = λ other told. relimited_once before start other (limits_set cut.earlier start) a.commissioned.shaped.listed told limits;
+  amount = amount;
+  most = record {
+    most = λ h alike flow. subst (λ (d : ℤ). delivered h ≤ℤ d) best.tight (best.most h (sym same ∙ alike) flow);
+    attained = (end, same, raised.flow, best.tight);
+  };
+  agree = all_agree amount end shaped raised.flow finished best.tight cut.later between later (between ++ later) cut.tells refl
+      on.1 calm;
+}
+  where
+    cut : Cut a.events before (between ++ later)
+    cut = cut_at a.events before l (between ++ later) answers says a.told are
+
+    call : Event
+    call = settling cut.budget cut.routes cut.answer
+
+    history : IsHistory (cut.earlier ++ call ∷ cut.later) start
+    history = subst (λ (es : List Event). IsHistory es start) cut.are a.history
+
+    earlier : IsHistory cut.earlier start
+    earlier = IsHistory-before cut.earlier (call ∷ cut.later) start history
+
+    limits : Relimited before start (limits_set cut.earlier start)
+    limits = cut.limits start start refl earlier
+
+    -- the network before the settling, and the one behind it
+    at : Net
+    at = after_calls cut.earlier start
+
+    end : Net
+    end = pushed_all cut.routes at
+
+    there : Lasting start at
+    there = lasting cut.earlier start a.commissioned earlier
+
+    on : IsHistory (call ∷ cut.later) at
+    on = IsHistory-behind cut.earlier (call ∷ cut.later) start history
+
+    raised : IsRaised at end (litres_of at cut.routes)
+    raised = raised_all at cut.routes there.shaped there.flow (shortest_from_first at cut.routes on.0.settles.firsts)
+
+    shaped : Shaped end
+    shaped = Shaped-alike at end raised.alike there.shaped
+
+    finished : Finished end
+    finished = on.0.tells.0 cut.finished
+
+    amount : ℕ
+    amount = cut_sum (near_of end) end.reaches
+
+    best : IsBest end (near_of end)
+    best = best_cut end (near_of end) shaped raised.flow finished (near_of-is end shaped)
+
+    -- it has the limits that were set
+    same : Alike (limits_set cut.earlier start) end
+    same = alike_limits cut.earlier start start refl ∙ raised.alike
+
+-- a report that accounts for a network stands
+lines_stand : (start : Net) (ls : Lines) → AccountsFor start ls → (first l : List ℕ) (before between later : Lines) →
+    ls ≡ first ∷ (before ++ (l ∷ (between ++ later))) → SaysFinished l → All Undisturbed between → Stands start before between
+lines_stand start ls accounts first l before between later are says calm = ⊎_elim
+    (λ (r : OneRefusal ls).
+    let none : before ++ (l ∷ (between ++ later)) ≡ [] = let e = sym are ∙ r.1 in cc in
+    absurd (nothing_behind before l (between ++ later) none))
+    (λ (x : (answers : Lines) × (ls ≡ network_line start.junctions (length start.reaches) ∷ answers) × Account start answers).
+    let behind : x.0 ≡ before ++ (l ∷ (between ++ later)) = let e = sym x.1 ∙ are in cc in
+    account_stands start x.0 before l between later x.2 behind says calm)
+    accounts
+
+pub stands_firm : (rows : List Row) (input : List ℕ) → StandsFirm (drawn input) (reported (places_in rows) input)
+stands_firm rows input first l before between later are says calm =
+    lines_stand (described (drawn input)) (reported (places_in rows) input) (accounted rows input) first l before between later
+    are says calm
