@@ -20,3 +20,9 @@ returns-in_err-reader-clause-stands g c = stands_firm c.args.rows.now c.args.inp
 
 pub returns-clause-stands : goal.returns-clause-stands
 returns-clause-stands g c = stands_firm c.args.rows.now c.args.input.now
+
+pub returns-in_err-enter_chambers-clause-stands : goal.returns-in_err-enter_chambers-clause-stands
+returns-in_err-enter_chambers-clause-stands g c = stands_firm _ _
+
+pub returns-in_err-enter_feeders-clause-stands : goal.returns-in_err-enter_feeders-clause-stands
+returns-in_err-enter_feeders-clause-stands g c = stands_firm _ _
