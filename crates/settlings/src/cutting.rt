@@ -25,10 +25,7 @@ fn are_blank(marks: &[u8]) -> bool {
 }
 
 // Whether `perform` answered what the call answered.
-fn is_same_answer(
-    performed: Result<Answer, Refusal>,
-    answer: Result<Bottleneck, Refusal>,
-) -> bool {
+fn is_same_answer(performed: Result<Answer, Refusal>, answer: Result<Bottleneck, Refusal>) -> bool {
     match (performed, answer) {
         (Ok(Answer::Bottleneck(one)), Ok(other)) => one == other,
         (Err(one), Err(other)) => one == other,
@@ -54,7 +51,11 @@ impl Asked {
 
     // Whether the marks behind those of n junctions are as they were; and all of them, where the call was refused.
     pub fn leaves_later_marks(&self, n: u16) -> bool {
-        let written = if self.answer.is_ok() { usize::from(n) } else { 0 };
+        let written = if self.answer.is_ok() {
+            usize::from(n)
+        } else {
+            0
+        };
         self.marks.get(written..).is_some_and(are_blank)
     }
 
@@ -76,7 +77,9 @@ impl Asked {
 // Whether the call is refused with one mark too few, by the network with 8, and writes none.
 pub fn refuses_too_few<N: Network>(net: &N) -> bool {
     let mut marks = [BLANK; MARKS];
-    let few = usize::from(net.size().junctions).saturating_sub(1).min(MARKS);
+    let few = usize::from(net.size().junctions)
+        .saturating_sub(1)
+        .min(MARKS);
     let answer = bottleneck(net, &mut marks[..few]);
     answer == Err(Refusal::new(Fault::NoPlace, Part::Network)) && are_blank(&marks)
 }
