@@ -1,3 +1,4 @@
 pub mod Reported
 pub mod Laws
 pub mod Setups
+pub mod Worked
