@@ -38,16 +38,16 @@ limited_flow g k q flow fits = record {
       out ∙ flow.balanced v low a b ∙ sym in';
 }
 
--- a network that carries nothing carries a flow
+-- in a network that carries nothing no sum of amounts is above 0; it carries a flow
+pub dry_sum : (g : Net) → CommissionedDry g → (f : Arc → ℕ) → ((r : Arc) → f r ≤ r.carried) → sum_of f g.reaches ≡ 0
+dry_sum g c f le = sum_of-zero f g.reaches
+    (All-weaker (λ r. r.carried ≡ 0) (λ r. f r ≡ 0) (λ r dry. omega (arith, le r)) g.reaches c.dry)
+
 pub dry_flow : (g : Net) → CommissionedDry g → IsFlow g
 dry_flow g c = record {
   within = All-weaker (λ r. r.carried ≡ 0) (λ r. r.carried ≤ r.limit) (λ r dry. omega arith) g.reaches c.dry;
-  balanced = λ v low a b. none (out_of v) (out_of-le v) ∙ sym (none (into v) (into-le v));
+  balanced = λ v low a b. dry_sum g c (out_of v) (out_of-le v) ∙ sym (dry_sum g c (into v) (into-le v));
 }
-  where
-    none : (f : Arc → ℕ) → ((r : Arc) → f r ≤ r.carried) → sum_of f g.reaches ≡ 0
-    none f le = sum_of-zero f g.reaches
-        (All-weaker (λ r. r.carried ≡ 0) (λ r. f r ≡ 0) (λ r dry. omega (arith, le r)) g.reaches c.dry)
 
 -- histories one after another
 pub after_calls-append : (xs ys : List Event) (g : Net) → after_calls (xs ++ ys) g ≡ after_calls ys (after_calls xs g)
@@ -74,7 +74,7 @@ pub record Lasting (g h : Net) : Type 0 where
   pub junctions : g.junctions ≡ h.junctions
   pub reaches : length g.reaches ≡ length h.reaches
 
-lasting_call : (e : Event) (g : Net) → Shaped g → IsFlow g → Happens e g → Lasting g (after_call e g)
+pub lasting_call : (e : Event) (g : Net) → Shaped g → IsFlow g → Happens e g → Lasting g (after_call e g)
 lasting_call (settling budget routes answer) g shaped flow h =
     let x = raised_all g routes shaped flow (shortest_from_first g routes h.settles.firsts) in
     record {

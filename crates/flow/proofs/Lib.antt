@@ -16,6 +16,7 @@ pub mod Spending
 pub mod Running
 pub mod Machining
 pub mod Lasting
+pub mod Adding
 pub mod Attaining
 pub mod Promising
 pub mod Answering

@@ -14,7 +14,8 @@ use Rattle.flow.proofs.Besting.{best_cut, agreed}
 use Rattle.flow.proofs.Finding.{bottleneck_found}
 use Rattle.flow.proofs.Running.{runs_bounded}
 use Rattle.flow.proofs.Machining.{EachPushed-at, shortest_from_first}
-use Rattle.flow.proofs.Lasting.{IsHistory-before, IsHistory-behind, Lasting, lasting, stands_finished, Calm, run_of}
+use Rattle.flow.proofs.Lasting.{IsHistory-before, IsHistory-behind, Lasting, lasting, dry_flow, stands_finished, Calm, run_of}
+use Rattle.flow.proofs.Adding.{adds_up, dry_delivers}
 
 -- the promise
 module _ (start : Net) (events : List Event) (commissioned : CommissionedDry start) (history : IsHistory events start) where
@@ -84,6 +85,7 @@ same_for_all start events c h f begun calls c' h' f' a near other is is' =
 pub promise_kept : PromiseKept
 promise_kept start events c h = record {
   flow = (lasting events start c h).flow;
+  adds = adds_up events start 0 c.shaped (dry_flow start c) (dry_delivers start c) h;
   most = most start events c h;
   found = bottleneck_found (after_calls events start) (lasting events start c h).shaped;
   cut = λ f near is. (best_at_end start events c h f near is).cut;

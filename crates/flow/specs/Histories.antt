@@ -120,3 +120,14 @@ routes_of e = 0
 abbrev pub routes_counted : List Event → ℕ
 routes_counted [] = 0
 routes_counted (e ∷ es) = routes_of e + routes_counted es
+
+-- the litres that a network delivers after a call where it delivered a before: a settling adds those that it answered, a
+-- draining leaves none
+abbrev pub litres_after : Event → ℕ → ℕ
+litres_after (settling budget routes answer) a = a + answer.litres
+litres_after draining a = 0
+litres_after e a = a
+
+abbrev pub litres_counted : List Event → ℕ → ℕ
+litres_counted [] a = a
+litres_counted (e ∷ es) a = litres_counted es (litres_after e a)

@@ -7,12 +7,14 @@ use Rattle.flow.specs.Changes.{Alike}
 use Rattle.flow.specs.Routes.{IsShortest}
 use Rattle.flow.specs.Pushes.{pushed_all}
 use Rattle.flow.specs.Cuts.{Side, IsCut, cut_sum, IsBottleneck, IsBest, Agree}
-use Rattle.flow.specs.Histories.{Event, Outcome, settling, bottleneck, after_calls, marked, IsHistory, CommissionedDry, Disturbs, StandsFinished, routes_counted}
+use Rattle.flow.specs.Histories.{Event, Outcome, settling, bottleneck, after_calls, marked, IsHistory, CommissionedDry, Disturbs, StandsFinished, routes_counted, litres_counted}
 
 -- of a network start, of calls that happened on it, and of the network end that they left
 pub record Promise (start : Net) (events : List Event) (end : Net) : Type 0 where
   -- what the network carries is a flow within its limits
   pub flow : IsFlow end
+  -- it delivers the litres that settlings answered since the last draining, all together, and so never less than 0
+  pub adds : delivered end ≡ pos (litres_counted events 0)
   -- a network that stands finished delivers at least as much as every other flow within its limits
   pub most : StandsFinished events → (other : Net) → Alike end other → IsFlow other → delivered other ≤ℤ delivered end
   -- every network has a bottleneck; of one that stands finished it is a cut, its sum is what is delivered, and no cut has
