@@ -1,5 +1,5 @@
 -- What the call of a command answers, as lines.
-use Rattle.std.proofs.Common.{◌≡◌, ℕ, ◌<◌, ◌≤◌, Bool, true, false, cond, nat_lt, List, [], ◌∷◌, length, Some, None, Ok, Err, Option, Result, refl, sym, ap, ◌∙◌, subst, arith, rules}
+use Rattle.std.proofs.Common.{◌≡◌, ℕ, ◌<◌, Bool, true, false, cond, nat_lt, List, [], ◌∷◌, length, Some, None, Ok, Err, Option, Result, refl, sym, ap, ◌∙◌, subst, arith}
 use Rattle.std.proofs.lemmas.Bool.Decides.{nat_tests}
 use Rattle.refusal.specs.declared.Part.{Part}
 use Rattle.refusal.specs.declared.Part.TheVariants.{Network}
@@ -11,9 +11,6 @@ use Rattle.flow.specs.Histories.{marked}
 use Rattle.flow.specs.Bottlenecks.{near_of, has_route, bottleneck_sum, marked_over}
 use Rattle.flow.proofs.Marking.{marked_tells, one_near}
 use Rattle.naming.specs.Names.{Naming}
-use Rattle.network.specs.declared.change.Change.TheVariants as change
-use Rattle.network.specs.Changing.{change_checks}
-use Rattle.marking.specs.Marks.{bottleneck_checks}
 use Rattle.performing.specs.declared.answer.Answer.{Answer}
 use Rattle.performing.specs.declared.answer.Answer.TheVariants as answer
 use Rattle.performing.specs.declared.call.Call.{Call}
@@ -22,7 +19,7 @@ use Rattle.desk.specs.declared.command.Command.{Command}
 use Rattle.desk.specs.declared.command.Command.TheVariants as command
 use Rattle.desk.specs.declared.line.Line.{Line}
 use Rattle.desk.specs.declared.line.Line.TheVariants as line
-use Rattle.desk.specs.Lines.{Lines, refusal_line, refused_line, bottleneck_line, across_lines}
+use Rattle.desk.specs.Lines.{refusal_line, refused_line, bottleneck_line, across_lines}
 use Rattle.desk.specs.Commands.{call_of}
 use Rattle.desk.specs.Answering.{limited, answered, following, line_of, behind, marks_left}
 use Rattle.desk.proofs.Crossing.{across_lines-same}
@@ -45,7 +42,8 @@ module _ (g : Net) (giver : ℕ → Part) (given : List ℕ) (sound : Sound g) (
   open_way : (few route : Bool) (n : ℕ) (part : Part) → few ≡ false → refused_by few route ≡ Some (n, part) →
       (route ≡ true) × (n ≡ 10) × (part ≡ Network)
   open_way false true n part e h =
-      let same : (10, Network) ≡ (n, part) = cc in (refl, ap (λ (x : ℕ × Part). x.0) (sym same), ap (λ (x : ℕ × Part). x.1) (sym same))
+      let same : (n, part) ≡ (10, Network) = cc in
+      (refl, ap (λ (x : ℕ × Part). x.0) same, ap (λ (x : ℕ × Part). x.1) same)
   open_way false false n part e h = absurd cc
   open_way true route n part e h = absurd cc
 

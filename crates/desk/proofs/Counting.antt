@@ -1,10 +1,10 @@
 -- No command is passed over in silence, and none is answered twice.
-use Rattle.std.proofs.Common.{◌≡◌, ℕ, ◌+◌, Bool, true, false, cond, List, [], ◌∷◌, ◌++◌, refl, sym, ap, ◌∙◌, arith, Some, None, Option}
+use Rattle.std.proofs.Common.{◌≡◌, ℕ, ◌+◌, Bool, true, false, cond, List, [], ◌∷◌, ◌++◌, refl, ap, ◌∙◌, arith, Some, None, Option}
 use Rattle.refusal.specs.declared.Part.{Part}
 use Rattle.refusal.specs.Checks.{first_of}
 use Rattle.flow.specs.Net.{Arc, Net}
 use Rattle.flow.specs.Cuts.{Side, crosses}
-use Rattle.flow.specs.Bottlenecks.{near_of, has_route, bottleneck_sum}
+use Rattle.flow.specs.Bottlenecks.{near_of, has_route}
 use Rattle.naming.specs.Names.{Naming}
 use Rattle.network.specs.declared.change.Change.TheVariants as change
 use Rattle.network.specs.Changing.{change_checks}

@@ -1,11 +1,11 @@
 -- The lines of the reaches that cross a cut.
-use Rattle.std.proofs.Common.{◌≡◌, ℕ, zero, suc, ◌+◌, ◌-◌, ◌<◌, ◌≤◌, Bool, true, false, cond, List, [], ◌∷◌, ◌++◌, length, drop, get_or, refl, sym, ap, ◌∙◌, subst, arith, add-one, drop-cons, ⊎_elim}
+use Rattle.std.proofs.Common.{◌≡◌, ℕ, zero, suc, ◌+◌, ◌-◌, ◌<◌, ◌≤◌, Bool, false, cond, List, [], ◌∷◌, ◌++◌, length, drop, refl, sym, ap, ◌∙◌, arith, add-one, drop-cons, ⊎_elim}
 use Rattle.std.specs.Prelude.{IsTrue}
 use Rattle.std.specs.List.{All}
 use Rattle.std.proofs.lemmas.List.Elements.{All-head, All-tail}
 use Rattle.std.proofs.lemmas.Bool.{cases_Bool, cases_lt}
 use Rattle.std.proofs.lemmas.List.{drop_all}
-use Rattle.flow.specs.Net.{Arc, Net, no_arc, arc_at, Joined}
+use Rattle.flow.specs.Net.{Arc, no_arc, arc_at, Joined}
 use Rattle.flow.specs.Cuts.{Side, crosses}
 use Rattle.network.specs.Touching.{NoneFrom}
 use Rattle.naming.specs.Names.{Naming}

@@ -1,5 +1,5 @@
 -- The lines that a desk has still to give.
-use Rattle.std.specs.Prelude.{ℕ, List, [], ◌++◌, drop}
+use Rattle.std.specs.Prelude.{ℕ, [], ◌++◌, drop}
 use Rattle.refusal.specs.declared.Part.{Part}
 use Rattle.flow.specs.Net.{Net}
 use Rattle.flow.specs.Cuts.{Side}

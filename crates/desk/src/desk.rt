@@ -29,7 +29,7 @@ enum Phase {
     Opening,
     // The network was told, and this command, whose record stands at the place, is carried out next.
     Held { command: Command, place: usize },
-    // A bottleneck was told, and then the reaches that cross it, each that is below this number.
+    // A bottleneck was told, and of the reaches that cross it those below this number.
     Across { next: usize },
     // Commands are read.
     Commands,
@@ -44,7 +44,7 @@ pub struct Desk<'a, N: Network, S> {
     network: N,
     search: S,
     names: Names<'a>,
-    // which junctions are near, where a bottleneck was told last
+    // 1 for each junction that is near in the last bottleneck that was told
     marks: [u8; MOST_JUNCTIONS],
     phase: Phase,
 }

@@ -14,6 +14,7 @@ pub chamber_more : (names : Naming) (d rest : Drawn) (p j q : ℕ) (g : Net) (gi
     d ≡ item p (chamber j q) rest → first_of (chamber_checks g own j q) ≡ None →
     more ≡ own ++ (chamber_reach g own j q ∷ []) → chamber_lines names rest g giver more ≡ chamber_lines names d g giver own
 chamber_more names d rest p j q g giver own more told free put =
+    let entered = own ++ (chamber_reach g own j q ∷ []) in
     ap (chamber_lines names rest g giver) put
-    ∙ sym (ap (λ (o : Option (ℕ × Part)). refusable o p (chamber_lines names rest g giver (own ++ (chamber_reach g own j q ∷ [])))) free)
+    ∙ sym (ap (λ (o : Option (ℕ × Part)). refusable o p (chamber_lines names rest g giver entered)) free)
     ∙ sym (ap (λ (x : Drawn). chamber_lines names x g giver own) told)

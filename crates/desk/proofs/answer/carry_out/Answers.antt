@@ -1,4 +1,4 @@
-use Rattle.std.proofs.Common.{◌≡◌, ℕ, length, ap, ◌∙◌, arith}
+use Rattle.std.proofs.Common.{◌≡◌, length, ap, ◌∙◌, arith}
 use Rattle.refusal.specs.declared.Refusal.{Refusal}
 use Rattle.desk.specs.Lines.{refusal_line}
 use Rattle.desk.proofs.Carrying.{performed_as, refused_line_is, refused_marks, refused_behind, told_behind}
