@@ -20,6 +20,7 @@ MAX_SOURCES = 16  # of one layer
 MAX_SINKS = 16  # of one layer
 MAX_LIMIT = 1_000_000  # litres per second
 NOT_STATED = 0xFFFF_FFFF  # in I and O: no limit is stated
+MARKS = 512  # the marks of the program
 
 # What a refusal's number says.
 BAD_COUNT = 1  # fewer than 2 junctions, or more than 256
@@ -29,8 +30,9 @@ NO_REACH = 4  # a reach that is not below the number of reaches
 LIMIT_HIGH = 5  # a limit over 1,000,000
 LIMIT_LOW = 6  # a limit below what the reach carries
 AMOUNT_HIGH = 7  # an amount above the limit
-NO_PLACE = 8  # 1,024 reaches are laid already, or the entries of a layer are full
+NO_PLACE = 8  # 1,024 reaches are laid already, the entries of a layer are full, or there are too few marks
 STACK_LARGE = 9  # over 512 junctions or 2,048 reaches with this entry
+ROUTE_EXISTS = 10  # a bottleneck is asked for while a route exists
 BAD_BYTE = 11  # a kind that has no place there, or a byte that no name may have
 CUT_OFF = 12  # the input ends too early
 TOO_LONG = 13  # the input is over 65,536 bytes
@@ -64,9 +66,6 @@ STAGES = {
     "commands": COMMANDS,
 }
 MAY_END = ("after E", "after I or O", "commands")
-
-# Kinds that are read, but that the program has no command for yet.
-NOT_CARRIED_OUT = "B"
 
 
 # ---- Builders: each returns the bytes of one record. -----------------------------------------------------------------
@@ -185,6 +184,27 @@ class Network:
         enters = sum(reach.carried for reach in self.reaches() if reach.head == self.intake)
         return leaves - enters
 
+    def near_side(self):
+        """The junctions that open steps reach from the intake, the intake among them."""
+        near, new = {self.intake}, True
+        reaches = self.reaches()
+        while new:
+            new = {r.head for r in reaches if r.tail in near and r.carried < r.limit}  # forth along a reach
+            new |= {r.tail for r in reaches if r.head in near and r.carried > 0}  # back along it
+            new -= near
+            near |= new
+        return near
+
+    def bottleneck(self, marks=MARKS):
+        """The near side, and the crossing reaches, each with its number. Their limits, added up, are the sum. `marks`
+        is for how many junctions the caller has marks.
+        """
+        if marks < self.n:
+            raise Refused(NO_PLACE, "network")
+        near = self.near_side()
+        if self.outfall in near:
+            raise Refused(ROUTE_EXISTS, "network")
+        return near, [(k, r) for k, r in enumerate(self.reaches()) if r.tail in near and r.head not in near]
 
     def first_shortest_route(self):
         """The route with the fewest steps, and of those the one that is first by its step numbers; None where there is
@@ -456,9 +476,19 @@ def read_record(data, place, stage, n):
             raise Refused(NO_JUNCTION, "reader")
         if any(byte < 0x21 or byte > 0x7E for byte in name):
             raise Refused(BAD_BYTE, "reader")
-    if kind in NOT_CARRIED_OUT:
-        raise Refused(BAD_BYTE, "reader")
     return kind, fields, end
+
+
+def bottleneck_lines(network, names):
+    """The lines of an accepted B: the sum, and each reach that crosses from near to far. A junction is shown by its
+    name, or by its number where it has none.
+    """
+    _, crossing = network.bottleneck()
+    lines = [f"bottleneck {sum(reach.limit for _, reach in crossing)}"]
+    for k, reach in crossing:
+        tail, head = (names.get(junction, str(junction)) for junction in (reach.tail, reach.head))
+        lines.append(f"across {k} {tail} {head} {reach.limit}")
+    return lines
 
 
 def report(data):
@@ -468,6 +498,7 @@ def report(data):
 
     draft = Draft()
     chambers = network = None  # from E on: chambers over the table, and the whole: gathering over the chambers
+    names = {}  # junction: its name, which is the first that a record N gives it
     stage = "start"
     commanded = False  # a command was read whole, so the network line is printed
     lines = []
@@ -492,10 +523,12 @@ def report(data):
             lines.append(f"network {network.n} {network.m}")
             commanded = True
 
-        # It is carried out. N has nothing to carry out: a name is only checked.
+        # It is carried out.
         try:
             if kind == "H":
                 draft.shape(*fields)
+            elif kind == "N":
+                names.setdefault(fields[0], fields[1].decode("ascii"))
             elif kind == "R":
                 draft.lay(*fields)
             elif kind == "E":
@@ -516,6 +549,8 @@ def report(data):
             elif kind == "D":
                 network.drain()
                 lines.append("drained")
+            elif kind == "B":
+                lines += bottleneck_lines(network, names)
             elif kind == "T":
                 lines.append(f"tally {network.tally()}")
         except Refused as refusal:

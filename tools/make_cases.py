@@ -20,6 +20,8 @@ NAME_LETTERS = set("abcdefghijklmnopqrstuvwxyzABCDEFGHIJKLMNOPQRSTUVWXYZ01234567
 
 RANDOM_VALID = 36
 RANDOM_DAMAGED = 32  # a multiple of the four sorts of damage
+RANDOM_BOTTLENECKS = 20
+DAMAGED_BOTTLENECKS = 10
 
 cases = {}  # name: bytes, in the order of the files
 
@@ -392,19 +394,210 @@ def settlings():
     add("settle-then-bad", MAINS + S(10) + b"s", MAINS_NETWORK, "settled 3 5 yes", refused(11, 58, "reader"))
 
 
-def not_carried_out():
-    """The kind that the program reads, but has no command for."""
-    for kind in "B":
-        add(f"no-command-{kind}", BUILT + WHOLE[kind] + T(), refused(11, 26, "reader"))
-        add(f"no-command-after-entries-{kind}", BUILT + C(1, 4) + I(0, 4) + WHOLE[kind] + T(),
-            refused(11, 40, "reader"))
-        add(f"no-command-late-{kind}", BUILT + L(0, 8) + WHOLE[kind] + T(),
-            NETWORK, "limit 0 8", refused(11, 33, "reader"))
+def bottlenecks():
+    """Bottlenecks: while a route exists, after settlings, and whenever the near side is another."""
+    # B is a command. It ends nothing, whether it is refused or not.
+    first = refused(10, 26, "network")
+    add("bottleneck-first", BUILT + B() + T(), NETWORK, first, "tally 0")
+    add("bottleneck-after-entries", BUILT + C(1, 4) + I(0, 4) + B() + T(), "network 6 4",
+        "bottleneck 0", "tally 0")
+    add("bottleneck-after-chamber", BUILT + C(1, 4) + B() + T(), "network 4 3", refused(10, 33, "network"), "tally 0")
+    add("bottleneck-late", BUILT + L(0, 8) + B() + T(), NETWORK, "limit 0 8", refused(10, 33, "network"), "tally 0")
+    add("bottleneck-only", BUILT + B(), NETWORK, first)
+    add("bottleneck-only-answered", HEADER + E() + B(), "network 3 0", "bottleneck 0")
+    add("bottleneck-then-bad", BUILT + B() + b"b", NETWORK, first, refused(11, 27, "reader"))
+    add("bottleneck-then-zero", BUILT + B() + b"\x00", NETWORK, first, refused(11, 27, "reader"))
+    add("bottleneck-then-short", BUILT + B() + L(0, 5)[:-1], NETWORK, first, refused(12, 27, "reader"))
+    for kind in "HNRECIO":
+        add(f"bottleneck-then-{kind}", BUILT + B() + WHOLE[kind] + T(), NETWORK, first, refused(11, 27, "reader"))
+
+    # MAINS settled: reaches 0 and 1 take 3 and 2 litres from junction 0, and are full. Bytes: 53, and 5 for an S.
+    whole = ["bottleneck 5", "across 0 0 1 3", "across 1 0 2 2"]
+    yes = "settled 3 5 yes"
+    add("bottleneck-settled", MAINS + S(10) + B() + T(), MAINS_NETWORK, yes, *whole, "tally 5")
+    add("bottleneck-at-end", MAINS + S(10) + B(), MAINS_NETWORK, yes, *whole)
+    add("bottleneck-twice", MAINS + S(10) + B() + B() + T() + B(), MAINS_NETWORK, yes, *whole, *whole, "tally 5", *whole)
+    add("bottleneck-bad-after", MAINS + S(10) + B() + b"Z", MAINS_NETWORK, yes, *whole, refused(11, 59, "reader"))
+    add("bottleneck-short-after", MAINS + S(10) + B() + S(10)[:-2], MAINS_NETWORK, yes, *whole,
+        refused(12, 59, "reader"))
+    add("bottleneck-entry-after", MAINS + S(10) + B() + C(1, 5), MAINS_NETWORK, yes, *whole, refused(11, 59, "reader"))
+    add("bottleneck-before-and-after", MAINS + B() + S(10) + B(), MAINS_NETWORK, refused(10, 53, "network"), yes, *whole)
+    add("bottleneck-just-enough", MAINS + S(3) + B(), MAINS_NETWORK, yes, *whole)
+    add("bottleneck-not-finished", MAINS + S(2) + B() + T(), MAINS_NETWORK, "settled 2 4 no",
+        refused(10, 58, "network"), "tally 4")
+    add("bottleneck-budget-0", MAINS + S(0) + B() + S(9) + B(), MAINS_NETWORK, "settled 0 0 no",
+        refused(10, 58, "network"), yes, *whole)
+    add("bottleneck-by-and-by", MAINS + S(1) + B() + S(1) + B() + S(1) + B(), MAINS_NETWORK, "settled 1 2 no",
+        refused(10, 58, "network"), "settled 1 2 no", refused(10, 64, "network"), "settled 1 1 yes", *whole)
+    add("bottleneck-drained", MAINS + S(9) + B() + D() + B() + S(9) + B(), MAINS_NETWORK, yes, *whole, "drained",
+        refused(10, 60, "network"), yes, *whole)
+    add("bottleneck-among-refused", MAINS + S(9) + L(0, 2) + B() + L(5, 1) + B() + L(0, 1_000_001) + T(), MAINS_NETWORK,
+        yes, refused(6, 58, "network"), *whole, refused(4, 66, "network"), *whole, refused(5, 74, "network"), "tally 5")
+
+    # After limit changes: the near side is another, or a route exists again.
+    add("bottleneck-limit-same", MAINS + S(9) + L(0, 3) + B(), MAINS_NETWORK, yes, "limit 0 3", *whole)
+    add("bottleneck-limit-raised", MAINS + S(9) + L(0, 6) + B(), MAINS_NETWORK, yes, "limit 0 6", "bottleneck 5",
+        "across 1 0 2 2", "across 2 1 2 1", "across 3 1 3 2")
+    add("bottleneck-by-step-back", MAINS + S(9) + L(1, 9) + B(), MAINS_NETWORK, yes, "limit 1 9", "bottleneck 5",
+        "across 3 1 3 2", "across 4 2 3 3")
+    add("bottleneck-limit-beyond", MAINS + S(9) + L(3, 9) + L(4, 9) + B(), MAINS_NETWORK, yes, "limit 3 9", "limit 4 9",
+        *whole)
+    add("bottleneck-route-again", MAINS + S(9) + B() + L(3, 9) + L(0, 6) + B() + S(1) + B() + T(), MAINS_NETWORK, yes,
+        *whole, "limit 3 9", "limit 0 6", refused(10, 73, "network"), "settled 1 3 yes", "bottleneck 8",
+        "across 0 0 1 6", "across 1 0 2 2", "tally 8")
+    add("bottleneck-limits-lowered", MAINS + L(3, 1) + L(4, 1) + S(9) + B(), MAINS_NETWORK, "limit 3 1", "limit 4 1",
+        "settled 2 2 yes", "bottleneck 2", "across 3 1 3 1", "across 4 2 3 1")
+    add("bottleneck-other-order", MAINS + L(0, 9) + S(1) + D() + L(0, 3) + S(1) + S(9) + B(), MAINS_NETWORK, "limit 0 9",
+        "settled 1 2 no", "drained", "limit 0 3", "settled 1 2 no", "settled 2 3 yes", *whole)
+
+    # Every limit 1, and a route that goes back: the near side is junction 0 alone.
+    add("bottleneck-crossed", CROSSED + S(9) + B() + T(), "network 6 7", "settled 2 2 yes", "bottleneck 2",
+        "across 0 0 1 1", "across 5 0 4 1", "tally 2")
+    add("bottleneck-crossed-1", CROSSED + S(1) + B(), "network 6 7", "settled 1 1 no", refused(10, 76, "network"))
+
+
+def cuts():
+    """Near sides of many forms. What is near is told by the open steps from the intake, and by nothing else."""
+    # Of cuts of equal sum the bottleneck is the nearest to the intake, though no open step leads to the outfall from
+    # junctions 1 and 2 either.
+    add("cut-nearest-of-two", H(4, 0, 3) + R(0, 1, 3) + R(1, 2, 9) + R(2, 3, 3) + E() + S(9) + B(), "network 4 3",
+        "settled 1 3 yes", "bottleneck 3", "across 0 0 1 3")
+    add("cut-nearest-of-three", H(4, 0, 3) + R(2, 3, 7) + R(1, 2, 7) + R(0, 1, 7) + E() + S(9) + B(), "network 4 3",
+        "settled 1 7 yes", "bottleneck 7", "across 2 0 1 7")
+    add("cut-in-the-middle", H(5, 0, 4) + R(0, 1, 9) + R(1, 2, 8) + R(2, 3, 3) + R(3, 4, 3) + E() + S(9) + B(),
+        "network 5 4", "settled 1 3 yes", "bottleneck 3", "across 2 2 3 3")
+    add("cut-at-outfall", H(4, 0, 3) + R(0, 1, 9) + R(1, 2, 8) + R(2, 3, 3) + E() + S(9) + B(), "network 4 3",
+        "settled 1 3 yes", "bottleneck 3", "across 2 2 3 3")
+    # A dead end is near where it is reached, and an island is far; a reach from far to near does not cross.
+    add("cut-dead-end", H(4, 0, 3) + R(0, 1, 9) + R(0, 3, 2) + R(1, 2, 5) + E() + S(9) + B(), "network 4 3",
+        "settled 1 2 yes", "bottleneck 2", "across 1 0 3 2")
+    add("cut-island", H(5, 0, 4) + R(0, 1, 9) + R(1, 4, 2) + R(2, 3, 5) + R(3, 1, 5) + E() + S(9) + B(), "network 5 4",
+        "settled 1 2 yes", "bottleneck 2", "across 1 1 4 2")
+    add("cut-back", HEADER + R(0, 1, 9) + R(1, 0, 5) + R(1, 2, 4) + R(2, 1, 8) + R(2, 0, 8) + E() + S(9) + B(),
+        "network 3 5", "settled 1 4 yes", "bottleneck 4", "across 2 1 2 4")
+    add("cut-parallel", HEADER + R(0, 1, 9) + R(1, 2, 1) + R(1, 2, 2) + R(2, 1, 7) + R(1, 2, 1) + E() + S(9) + B() + T(),
+        "network 3 5", "settled 3 4 yes", "bottleneck 4", "across 1 1 2 1", "across 2 1 2 2", "across 4 1 2 1",
+        "tally 4")
+    add("cut-intake-last", H(4, 3, 0) + R(1, 0, 2) + R(2, 0, 3) + R(3, 1, 3) + R(3, 2, 2) + R(1, 2, 1) + E() + S(9) + B(),
+        "network 4 5", "settled 3 5 yes", "bottleneck 5", "across 2 3 1 3", "across 3 3 2 2")
+    # A crossing reach of limit 0 counts too. It adds nothing to the sum.
+    add("cut-limit-0", HEADER + R(0, 1, 0) + R(1, 2, 9) + E() + B() + T(), "network 3 2", "bottleneck 0", "across 0 0 1 0",
+        "tally 0")
+    add("cut-limits-0", HEADER + R(0, 1, 0) + R(0, 2, 0) + R(1, 2, 9) + R(0, 1, 0) + E() + B(), "network 3 4",
+        "bottleneck 0", "across 0 0 1 0", "across 1 0 2 0", "across 3 0 1 0")
+    add("cut-limit-0-among-others", HEADER + R(0, 1, 4) + R(0, 2, 0) + R(1, 2, 9) + E() + S(9) + B(), "network 3 3",
+        "settled 1 4 yes", "bottleneck 4", "across 0 0 1 4", "across 1 0 2 0")
+    add("cut-limit-set-to-0", BUILT + L(1, 0) + B() + L(1, 1) + B(), NETWORK, "limit 1 0", "bottleneck 0",
+        "across 1 1 2 0", "limit 1 1", refused(10, 41, "network"))
+    add("cut-nothing-near", HEADER + R(1, 0, 9) + R(2, 1, 9) + E() + B() + S(9) + B(), "network 3 2", "bottleneck 0",
+        "settled 0 0 yes", "bottleneck 0")
+    # The greatest sum of a table: 1,024 reaches that cross.
+    widest = H(2, 0, 1) + R(0, 1, 1_000_000) * 1024 + E()
+    add("cut-widest", widest + S(1024) + B() + T(), "network 2 1024", "settled 1024 1024000000 yes",
+        "bottleneck 1024000000", *[f"across {k} 0 1 1000000" for k in range(1024)], "tally 1024000000")
+    # Water that goes round through the intake: what is delivered is the sum of the bottleneck all the same.
+    add("cut-round", H(4, 1, 2) + R(0, 1, 5) + R(1, 3, 5) + R(3, 0, 5) + R(3, 2, 4) + E() + S(9) + B() + T(),
+        "network 4 4", "settled 1 4 yes", "bottleneck 4", "across 3 3 2 4", "tally 4")
+
+
+def mains(*names):
+    """MAINS with names: right after the header, settled, and with its bottleneck."""
+    return MAINS[:7] + b"".join(names) + MAINS[7:] + S(9) + B()
+
+
+def across_names():
+    """Which name is shown for a junction, and that it is."""
+    def across(at, one, other):
+        return MAINS_NETWORK, "settled 3 5 yes", "bottleneck 5", f"across 0 {at} {one} 3", f"across 1 {at} {other} 2"
+
+    add("named-none", mains(), *across("0", "1", "2"))
+    add("named-intake", mains(N(0, "HEADGATE")), *across("HEADGATE", "1", "2"))
+    add("named-head", mains(N(2, "EASTMAIN")), *across("0", "1", "EASTMAIN"))
+    add("named-not-shown", mains(N(3, "TAILGATE")), *across("0", "1", "2"))
+    add("named-all", mains(N(3, "TAILGATE"), N(1, "WESTMAIN"), N(0, "HEADGATE"), N(2, "EASTMAIN")),
+        *across("HEADGATE", "WESTMAIN", "EASTMAIN"))
+    add("named-twice", mains(N(1, "WESTMAIN"), N(1, "EASTMAIN")), *across("0", "WESTMAIN", "2"))
+    add("named-twice-same", mains(N(1, "WESTMAIN"), N(1, "WESTMAIN")), *across("0", "WESTMAIN", "2"))
+    add("named-often", mains(N(0, "FIRSTONE"), N(1, "WESTMAIN"), N(0, "SECONDLY"), N(0, "THIRDONE"), N(1, "EASTMAIN")),
+        *across("FIRSTONE", "WESTMAIN", "2"))
+    add("named-alike", mains(N(1, "MAINDUCT"), N(2, "MAINDUCT")), *across("0", "MAINDUCT", "MAINDUCT"))
+    add("named-like-numbers", mains(N(0, "00000003"), N(1, "99999999"), N(2, "-0000001")),
+        *across("00000003", "99999999", "-0000001"))
+    add("named-by-signs", mains(N(0, "!!!!!!!!"), N(1, "~~~~~~~~"), N(2, "{}%\\\"'`<")),
+        *across("!!!!!!!!", "~~~~~~~~", "{}%\\\"'`<"))
+    every = bytes(range(0x21, 0x7F)) + b"!!"  # every byte that a name may have: 94, and 2 more
+    each = [every[8 * k : 8 * k + 8] for k in range(12)]
+    add("named-by-every-byte", H(14, 0, 13) + b"".join(N(k + 1, each[k]) + R(0, k + 1, 0) for k in range(12)) + E()
+        + B(), "network 14 12", "bottleneck 0", *[f"across {k} 0 {each[k].decode()} 0" for k in range(12)])
+    add("named-after-reaches", MAINS[:-1] + N(0, "HEADGATE") + N(2, "EASTMAIN") + E() + S(9) + B(),
+        *across("HEADGATE", "1", "EASTMAIN"))
+    add("named-among-reaches", MAINS[:16] + N(2, "EASTMAIN") + MAINS[16:34] + N(2, "CROSSCUT") + MAINS[34:] + S(9) + B(),
+        *across("0", "1", "EASTMAIN"))
+    add("named-and-refused", MAINS[:7] + N(0, "HEADGATE") + MAINS[7:] + B() + S(9) + B(), MAINS_NETWORK,
+        refused(10, 64, "network"), *across("HEADGATE", "1", "2")[1:])
+    add("named-255", H(256, 255, 0) + N(255, "HEADGATE") + N(0, "TAILGATE") + R(255, 0, 6) + R(255, 254, 0) + E() + S(9)
+        + B(), "network 256 2", "settled 1 6 yes", "bottleneck 6", "across 0 HEADGATE TAILGATE 6",
+        "across 1 HEADGATE 254 0")
+
+    # 5,120 names for 256 junctions: of each junction the first counts.
+    often = b"".join(N(k % 256, f"GATE{k:04}") for k in range(5120))
+    add("named-5120", H(256, 0, 255) + often + R(0, 7, 0) + R(0, 255, 5) + E() + S(9) + B(), "network 256 2",
+        "settled 1 5 yes", "bottleneck 5", "across 0 GATE0000 GATE0007 0", "across 1 GATE0000 GATE0255 5")
+
+
+def across_layers():
+    """Reaches of chambers and feeders that cross; twins, and the two junctions of the gathering, have no name."""
+    named = MAINS[:7] + N(0, "HEADGATE") + N(1, "WESTMAIN") + N(2, "EASTMAIN") + N(3, "TAILGATE") + MAINS[7:]  # 97 bytes
+
+    # One chamber: junction 4 is its twin, reach 5 its own.
+    add("across-chamber", named + C(2, 2) + S(9) + B() + T(), "network 5 6", "settled 2 4 yes", "bottleneck 4",
+        "across 3 WESTMAIN TAILGATE 2", "across 5 EASTMAIN 4 2", "tally 4")
+    add("across-from-twin", named + C(0, 9) + S(9) + B(), "network 5 6", "settled 3 5 yes", "bottleneck 5",
+        "across 0 4 WESTMAIN 3", "across 1 4 EASTMAIN 2")
+    add("across-to-chambered", named + C(1, 9) + S(9) + B(), "network 5 6", "settled 3 5 yes", "bottleneck 5",
+        "across 0 HEADGATE WESTMAIN 3", "across 1 HEADGATE EASTMAIN 2")
+    add("across-chamber-at-intake", named + C(0, 4) + S(9) + B() + L(5, 1_000_000) + B() + S(9) + B(), "network 5 6",
+        "settled 2 4 yes", "bottleneck 4", "across 5 HEADGATE 4 4", "limit 5 1000000", refused(10, 117, "network"),
+        "settled 1 1 yes", "bottleneck 5", "across 0 4 WESTMAIN 3", "across 1 4 EASTMAIN 2")
+    add("across-chamber-at-outfall", named + C(3, 4) + S(9) + B(), "network 5 6", "settled 2 4 yes", "bottleneck 4",
+        "across 5 TAILGATE 4 4")
+    add("across-chamber-limit-0", named + C(0, 0) + B(), "network 5 6", "bottleneck 0", "across 5 HEADGATE 4 0")
+    add("across-two-chambers", named + C(2, 1) + C(1, 1) + S(9) + B(), "network 6 7", "settled 2 2 yes", "bottleneck 2",
+        "across 5 EASTMAIN 4 1", "across 6 WESTMAIN 5 1")
+    add("across-all-chambers", named + C(3, 9) + C(0, 9) + C(1, 2) + C(2, 9) + S(9) + B(), "network 8 9",
+        "settled 2 4 yes", "bottleneck 4", "across 1 5 EASTMAIN 2", "across 7 WESTMAIN 6 2")
+
+    # With an entry of the gathering, junctions 4 and 5 are its own. The reaches of sources come before those of sinks.
+    add("across-source", named + I(0, 3) + O(3, None) + S(9) + B() + T(), "network 6 7", "settled 2 3 yes", "bottleneck 3",
+        "across 5 4 HEADGATE 3", "tally 3")
+    add("across-sink", named + O(3, 2) + I(0, None) + S(9) + B(), "network 6 7", "settled 1 2 yes", "bottleneck 2",
+        "across 6 TAILGATE 5 2")
+    add("across-sources", named + I(2, 2) + I(1, 1) + I(1, 1) + O(3, None) + S(9) + B(), "network 6 9",
+        "settled 3 4 yes", "bottleneck 4", "across 5 4 EASTMAIN 2", "across 6 4 WESTMAIN 1", "across 7 4 WESTMAIN 1")
+    add("across-no-sink", named + I(0, None) + B() + S(1) + B(), "network 6 6", "bottleneck 0", "settled 0 0 yes",
+        "bottleneck 0")
+    add("across-no-source", named + O(3, 6) + B(), "network 6 6", "bottleneck 0")
+    add("across-unstated", named + I(0, None) + O(0, None) + S(9) + B() + T(), "network 6 7", "settled 1 1000000 yes",
+        "bottleneck 1000000", "across 5 4 HEADGATE 1000000", "tally 1000000")
+    add("across-feeder-0", named + I(0, 0) + I(1, 1) + O(3, 5) + S(9) + B(), "network 6 8", "settled 1 1 yes",
+        "bottleneck 1", "across 5 4 HEADGATE 0", "across 6 4 WESTMAIN 1")
+
+    # Both: the twin is junction 4, the gathering's own are 5 and 6. A feeder may lead to the twin or from it.
+    add("across-feeder-to-twin", named + C(2, 9) + I(4, 5) + O(3, 8) + S(9) + B(), "network 7 8", "settled 1 3 yes",
+        "bottleneck 3", "across 4 4 TAILGATE 3")
+    add("across-feeder-to-twin-first", named + C(2, 9) + I(4, 2) + O(3, 8) + S(9) + B(), "network 7 8", "settled 1 2 yes",
+        "bottleneck 2", "across 6 5 4 2")
+    add("across-feeder-from-twin", named + C(2, 9) + I(0, 8) + O(4, 1) + S(9) + B(), "network 7 8", "settled 1 1 yes",
+        "bottleneck 1", "across 7 4 6 1")
+    add("across-everything", named + C(2, 2) + I(0, 4) + I(2, None) + O(3, 3) + O(1, 1) + S(99) + B() + T())
+    add("across-most-feeders", named + b"".join(I(k % 4, k) + O(3 - k % 4, k + 1) for k in range(16)) + S(999) + B() + T())
+    add("across-most-chambers", WIDE[:-1] + N(0, "HEADGATE") + b"".join(R(k, k + 1, 50) for k in range(39)) + E()
+        + b"".join(C(k, 100 - k) for k in range(32)) + S(99) + B() + L(0, 3_000) + B() + S(9) + B())
 
 
 def examples():
     """The drawings in examples/."""
-    for make in (make_examples.headworks, make_examples.refused, make_examples.district):
+    for make in (make_examples.headworks, make_examples.refused, make_examples.bottleneck, make_examples.district):
         add(f"example-{make.__name__}", make())
 
 
@@ -528,6 +721,49 @@ def random_damaged():
         add(f"damaged-{index:02}-{sort}", data)
 
 
+def random_bottleneck_records(dice):
+    """The records of a small drawing with low limits, names, and now and then entries; its commands are mostly S and B."""
+    n = 2 + dice.below(6)
+    records = [H(n, *two_of(dice, n))]
+    reaches = n + dice.below(9)
+    for _ in range(reaches):
+        if dice.below(3) == 0:
+            records.append(N(dice.below(n), bytes(0x21 + dice.below(0x5E) for _ in range(8))))
+        records.append(R(*two_of(dice, n), dice.below(10)))
+    records.append(E())
+    chambers = dice.of([0, 0, 1, 2])
+    first = dice.below(n)
+    for e in range(min(chambers, n)):
+        records.append(C((first + e) % n, dice.below(10)))
+    feeders = dice.of([0, 0, 2, 4])
+    for e in range(feeders):
+        records.append((I, O)[e % 2](dice.below(n + min(chambers, n)), dice.of([None, dice.below(12), dice.below(12)])))
+    reaches += min(chambers, n) + feeders
+    for _ in range(4 + dice.below(9)):
+        kind = dice.below(10)
+        if kind < 3:
+            records.append(B())
+        elif kind < 5:
+            records.append(S(dice.of([1, 1, 2, 1_000])))
+        elif kind < 9:
+            records.append(L(dice.below(reaches + 1), dice.below(16)))
+        else:
+            records.append(dice.of([D(), T()]))
+    return records + [S(1_000), B(), T()]
+
+
+def random_bottlenecks():
+    """Drawings with bottlenecks, and such drawings with a byte changed or inserted."""
+    for index in range(RANDOM_BOTTLENECKS):
+        add(f"random-bottleneck-{index:02}", b"".join(random_bottleneck_records(Dice(3000 + index))))
+    for index in range(DAMAGED_BOTTLENECKS):
+        dice = Dice(4000 + index)
+        data = b"".join(random_bottleneck_records(dice))
+        at, byte = dice.below(len(data)), dice.of([ord("B"), ord("B"), dice.below(256)])
+        data = data[:at] + bytes([byte]) + data[at + index % 2 :]
+        add(f"damaged-bottleneck-{index:02}", data)
+
+
 def main():
     ends_and_order()
     shapes()
@@ -539,11 +775,15 @@ def main():
     gathering()
     stacks()
     settlings()
-    not_carried_out()
+    bottlenecks()
+    cuts()
+    across_names()
+    across_layers()
     examples()
     sizes()
     random_valid()
     random_damaged()
+    random_bottlenecks()
 
     FOLDER.mkdir(parents=True, exist_ok=True)
     stdin = "".join(f"{name} {data.hex() or '-'}\n" for name, data in cases.items())

@@ -7,7 +7,7 @@ import sys
 from pathlib import Path
 
 sys.dont_write_bytecode = True  # leaves no __pycache__ beside the tools
-from drawing import C, D, E, H, I, L, N, O, R, S, T, report  # noqa: E402
+from drawing import B, C, D, E, H, I, L, N, O, R, S, T, report  # noqa: E402
 
 TOP = Path(__file__).resolve().parent.parent
 EXAMPLES = TOP / "examples"
@@ -49,6 +49,7 @@ def headworks():
             L(4, 650),
             S(100),
             T(),
+            B(),
         ]
     )
 
@@ -71,9 +72,29 @@ def refused():
     )
 
 
+def bottleneck():
+    """Two mains and a link between them, settled. What crosses the bottleneck leaves the head gate."""
+    return b"".join(
+        [
+            H(4, 0, 3),
+            N(0, "HEADGATE"),
+            R(0, 1, 3),
+            R(0, 2, 2),
+            R(1, 2, 1),
+            R(1, 3, 2),
+            R(2, 3, 3),
+            E(),
+            S(10),
+            L(0, 1),  # refused: the reach carries more
+            B(),
+            T(),
+        ]
+    )
+
+
 def district():
     """A river weir and a well field feed two cuts. The fork of the main can pass 3,200 litres per second, no more.
-    The rice land takes 1,600 at most, and the tail weir whatever arrives. Five commands are refused.
+    The rice land takes 1,600 at most, and the tail weir whatever arrives. Six commands are refused.
     """
     return b"".join(
         [
@@ -104,11 +125,16 @@ def district():
             O(7, None),  # reach 14
             S(1000),
             T(),
+            B(),  # what crosses is the chamber
             L(10, 2900),  # refused: the chamber lets more pass
             L(11, 650),  # refused: the feeder of WEIRGATE carries more
             L(13, 1_000_001),  # refused: the limit of a feeder is too high
             L(10, 1_000_001),  # refused: the limit of the chamber is too high
             L(15, 500),  # refused: the reaches are 0 to 14
+            L(10, 4000),  # the chamber lets more pass
+            B(),  # refused: now a route exists
+            S(1000),
+            B(),  # what crosses lies below the two cuts and the orchards
             D(),
             L(3, 1700),  # a reach of the table
             L(10, 2900),  # the chamber
@@ -123,7 +149,7 @@ def district():
 
 def main():
     EXAMPLES.mkdir(exist_ok=True)
-    for make in (headworks, refused, district):
+    for make in (headworks, refused, bottleneck, district):
         data = make()
         lines = report(data).encode("ascii")
         (EXAMPLES / f"{make.__name__}.drawing").write_bytes(data)

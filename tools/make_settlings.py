@@ -7,10 +7,12 @@ numbers in the same order, so the two must agree in every line. Every run writes
 library networkx.
 
 A line has the number of the network, its kind, its junctions and reaches; how many routes were pushed in all, their
-litres, and a checksum of the steps and of what was carried; the same three for the network once drained; and whether
-all that the program compares was the same.
+litres, and a checksum of the steps and of what was carried; the bottleneck in the end: its sum, how many reaches cross
+it, and a checksum of all that was answered when a bottleneck was asked for, before and after each settling: sum, number
+and marks, or the number of the refusal; the same six for the network once drained; and whether all that the program
+compares was the same.
 
-The litres do not rest on the model alone. networkx, a library made elsewhere, answers with the most that can go from
+Litres and bottlenecks do not rest on the model alone. networkx, a library made elsewhere, answers with the most that can go from
 the intake to the outfall, and with the least cut. This tool stops with a message, and writes nothing, where
 
 - the litres of a settling that leaves no route are not what networkx finds for the headrooms before it, or a settling
@@ -19,7 +21,11 @@ the intake to the outfall, and with the least cut. This tool stops with a messag
   of all the drained networks, stands what networkx found,
 - the most that can go and the least cut differ,
 - a route is not as short as networkx finds that one can be, or there is none where networkx finds one,
-- in a small network, a route is not the first of all the shortest routes that networkx lists.
+- in a small network, a route is not the first of all the shortest routes that networkx lists,
+- the near side is not what networkx reaches by the open steps, or the outfall is among it though no route is left, or
+  is not though one is,
+- in a network that began dry, the sum of a bottleneck is not the least cut that networkx finds for the limits, or its
+  near side is not what networkx reaches by what a flow of its own, found for the limits, leaves open.
 """
 
 import sys
@@ -108,6 +114,18 @@ class Network:
 
     def drain(self):
         self.carried = [0] * self.m
+
+    def near_side(self):
+        """For each junction, whether open steps lead to it from the intake."""
+        near, pending = [False] * self.n, [self.intake]
+        near[self.intake] = True
+        while pending:
+            at = pending.pop()
+            for step in self.leaving[at]:
+                if self.headroom(step) > 0 and not near[self.finish(step)]:
+                    near[self.finish(step)] = True
+                    pending.append(self.finish(step))
+        return near
 
 
 def any_ends(dice, n):
@@ -326,9 +344,12 @@ class Figures:
     def __init__(self):
         self.routes = self.litres = 0
         self.checksum = Checksum()
+        self.sum = self.crossing = 0  # of the last bottleneck that was answered
+        self.cuts = Checksum()
 
     def __str__(self):
-        return f"{self.routes} {self.litres} {self.checksum.value:016x}"
+        settled = f"{self.routes} {self.litres} {self.checksum.value:016x}"
+        return f"{settled}, bottleneck {self.sum} {self.crossing} {self.cuts.value:016x}"
 
 
 # ---- What networkx says. ---------------------------------------------------------------------------------------------
@@ -384,11 +405,67 @@ def check_route(number, network, route):
         sys.exit(f"network {number}: the route {route}, but {first} is the first of those that networkx lists")
 
 
+def check_near(number, network, near):
+    """Compares a near side with what networkx reaches by the open steps."""
+    edges = graph(network, headrooms(network))
+    reached = networkx.descendants(edges, network.intake) | {network.intake}
+    if reached != {v for v in range(network.n) if near[v]}:
+        sys.exit(f"network {number}: near is {near}, but networkx reaches {reached}")
+
+
+def check_cut(number, network, near, cut_sum):
+    """Compares a bottleneck with what networkx finds for the limits of a network that carries a flow."""
+    edges = graph(network, limits(network))
+    outer = network.intake, network.outfall
+    least = networkx.minimum_cut_value(edges, *outer)
+    residual = networkx.algorithms.flow.dinitz(edges, *outer)  # a flow of its own
+    opened = networkx.DiGraph()
+    opened.add_nodes_from(range(network.n))
+    opened.add_edges_from((u, v) for u, v, edge in residual.edges(data=True) if edge["flow"] < edge["capacity"])
+    reached = networkx.descendants(opened, network.intake) | {network.intake}
+    if cut_sum != least or reached != {v for v in range(network.n) if near[v]}:
+        sys.exit(f"network {number}: a bottleneck of {cut_sum}, near {near}; networkx finds {least} and {reached}")
+
+
 # ---- What is done to each network. -----------------------------------------------------------------------------------
 
 
-def settle(number, network, budget, figures):
-    """Pushes first shortest routes until there is none, or as many as the budget allows. Says whether none is left."""
+ROUTE_EXISTS = 10  # the number of the refusal of a bottleneck while a route exists
+
+
+def ask(number, network, flows, figures):
+    """Asks for the bottleneck. `flows`: what the network carries is a flow. Says whether it was answered."""
+    near = network.near_side()
+    check_near(number, network, near)
+    if near[network.outfall]:
+        figures.cuts.add(ROUTE_EXISTS)
+        seen["bottlenecks refused"] += 1
+        return False
+    across = [k for k in range(network.m) if near[network.tails[k]] and not near[network.heads[k]]]
+    figures.sum, figures.crossing = sum(network.limits[k] for k in across), len(across)
+    figures.cuts.add(figures.sum, figures.crossing, *(int(is_near) for is_near in near))
+    if flows:
+        check_cut(number, network, near, figures.sum)
+    seen["bottlenecks"] += 1
+    seen["bottlenecks with several near junctions"] += sum(near) > 1
+    seen["bottlenecks with a crossing reach of limit 0"] += any(network.limits[k] == 0 for k in across)
+    return True
+
+
+def settle(number, network, budget, figures, flows):
+    """Asks for the bottleneck, settles, and asks once more. Says whether no route is left."""
+    before = ask(number, network, flows, figures)
+    routes, finished = settle_alone(number, network, budget, figures)
+    after = ask(number, network, flows, figures)
+    if before != (finished and routes == 0) or after != finished:
+        sys.exit(f"network {number}: bottlenecks answered {before} and {after}, routes {routes}, finished {finished}")
+    return finished
+
+
+def settle_alone(number, network, budget, figures):
+    """Pushes first shortest routes until there is none, or as many as the budget allows. Says how many, and whether none
+    is left.
+    """
     most = most_litres(network, headrooms(network))
     routes = litres = 0
     while True:
@@ -409,7 +486,7 @@ def settle(number, network, budget, figures):
     figures.litres += litres
     figures.checksum.add(routes, litres, finished, *network.carried)
     seen["settlings"] += 1
-    return finished
+    return routes, finished
 
 
 def change(dice, network, kind):
@@ -441,26 +518,37 @@ def trial(number):
     network = make(number)
     dice = Dice(TRIAL_SEED + number)
     dice.one_in(2)  # whether the program asks twice for each route
-    settled = Figures()
+    settled, flows = Figures(), kind != "carrying"
     for _ in range(dice.up_to(2)):
-        settle(number, network, dice.up_to(MOST_BUDGETS[scale]), settled)
+        settle(number, network, dice.up_to(MOST_BUDGETS[scale]), settled, flows)
         for _ in range(dice.up_to(4)):
             change(dice, network, kind)
-    if not settle(number, network, WHOLE_BUDGET, settled):
+    if not settle(number, network, WHOLE_BUDGET, settled, flows):
         sys.exit(f"network {number}: not finished")
-    if kind != "carrying":
+    if flows:
         check_litres(number, network, settled)
 
     drained = Figures()
     network.drain()
-    settle(number, network, WHOLE_BUDGET, drained)
+    settle(number, network, WHOLE_BUDGET, drained, True)
     check_litres(number, network, drained)
     seen["networks without a route"] += settled.routes == 0
     return f"{number} {kind} {network.n} {network.m}: {settled}, drained {drained}, same"
 
 
 seen = dict.fromkeys(
-    ("settlings", "changes", "routes", "routes with a step back", "networks without a route"), 0
+    (
+        "settlings",
+        "changes",
+        "routes",
+        "routes with a step back",
+        "networks without a route",
+        "bottlenecks",
+        "bottlenecks with several near junctions",
+        "bottlenecks with a crossing reach of limit 0",
+        "bottlenecks refused",
+    ),
+    0,
 )
 lengths = {}  # for each network, the lengths of the routes that were pushed
 

@@ -2,9 +2,13 @@
 #![tactic(auto)]
 
 #[cfg(test)]
+mod bottlenecks;
+#[cfg(test)]
 mod layers;
 #[cfg(test)]
 mod networks;
+#[cfg(test)]
+mod performed;
 #[cfg(test)]
 mod readers;
 #[cfg(test)]

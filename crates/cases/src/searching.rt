@@ -8,10 +8,16 @@ use std::process::Abort;
 use table::{Draft, Table};
 
 // Two mains and a link between them.
-const MAINS: [(u16, u16, u32); 5] = [(0, 1, 3), (0, 2, 2), (1, 2, 1), (1, 3, 2), (2, 3, 3)];
+pub(crate) const MAINS: [(u16, u16, u32); 5] = [
+    (0, 1, 3),
+    (0, 2, 2),
+    (1, 2, 1),
+    (1, 3, 2),
+    (2, 3, 3),
+];
 
 // The second route goes back along the reach that the first took.
-const CROSSED: [(u16, u16, u32); 7] = [
+pub(crate) const CROSSED: [(u16, u16, u32); 7] = [
     (0, 1, 1),
     (1, 2, 1),
     (2, 5, 1),
@@ -22,7 +28,7 @@ const CROSSED: [(u16, u16, u32); 7] = [
 ];
 
 // A network of these reaches, from junction 0 to the last.
-fn laid<'a>(
+pub(crate) fn laid<'a>(
     rt: &impl Abort,
     rows: &'a mut [network::Row],
     junctions: u16,

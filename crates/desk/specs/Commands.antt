@@ -6,6 +6,8 @@ use Rattle.refusal.specs.declared.Refusal.{Refusal}
 use Rattle.drawing.specs.Records.{Said, shape, name, reach, table_end, chamber, source, sink, limit, settle, drain, bottleneck, tally}
 use Rattle.drawing.specs.Reading.{refusal_at}
 use Rattle.drawing.specs.Ahead.{Drawn, item, end, refused}
+use Rattle.performing.specs.declared.call.Call.{Call}
+use Rattle.performing.specs.declared.call.Call.TheVariants as call
 use Rattle.desk.specs.declared.command.Command.{Command}
 use Rattle.desk.specs.declared.command.Command.TheVariants as command
 
@@ -28,6 +30,14 @@ command_of (sink j q) = None
 abbrev pub allowed : Option Command → Result Command Fault
 allowed (Some c) = Ok c
 allowed None = Err ByteNotAllowed
+
+-- the call that carries out a command
+abbrev pub call_of : Command → Call
+call_of (command.Limit k q) = call.Limit k q
+call_of (command.Settle b) = call.Settle b
+call_of command.Drain = call.Drain
+call_of command.Tally = call.Tally
+call_of command.Bottleneck = call.Bottleneck
 
 -- commands, each with the place of its record, up to the end of the input or to a refusal that ends the program
 pub data Asked : Type 0 where

@@ -8,6 +8,7 @@ use Rattle.refusal.specs.Texts.{refusal_text}
 use Rattle.flow.specs.Net.{Arc}
 use Rattle.flow.specs.Cuts.{Side, crosses}
 use Rattle.naming.specs.Names.{Naming, shown}
+use Rattle.naming.specs.Keeping.{label_text}
 use Rattle.desk.specs.declared.line.Line.{Line}
 use Rattle.desk.specs.declared.line.Line.TheVariants as line
 
@@ -63,6 +64,8 @@ line_text (line.Limit k q) = limit_line k q
 line_text (line.Settled routes litres finished) = settled_line routes litres finished
 line_text line.Drained = drained_line
 line_text (line.Tally d) = tally_line d
+line_text (line.Bottleneck sum) = bottleneck_line sum
+line_text (line.Across k tail head q) = across_text k (label_text tail) (label_text head) q
 line_text (line.Refused e) = refusal_line e
 
 -- lines, and the text that they make: each with its end, hex 0A

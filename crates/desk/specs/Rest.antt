@@ -10,6 +10,8 @@ use Rattle.drawing.specs.Ahead.{ahead}
 use Rattle.desk.specs.declared.desk.Desk.{Desk}
 use Rattle.desk.specs.declared.desk.Phase.{Phase}
 use Rattle.desk.specs.declared.desk.Phase.TheVariants as phase
+use Rattle.desk.specs.declared.line.Line.{Line}
+use Rattle.desk.specs.declared.line.Line.TheVariants as line
 use Rattle.desk.specs.Lines.{Lines, across_lines}
 use Rattle.desk.specs.Commands.{Asked, ask, asked}
 use Rattle.desk.specs.Answering.{command_lines, opened_lines}
@@ -22,6 +24,17 @@ rest_of names near (phase.Held c p) a giver g = command_lines names (ask c p a) 
 rest_of names near (phase.Across k) a giver g = across_lines names near k (drop k g.reaches) ++ command_lines names a giver g
 rest_of names near phase.Commands a giver g = command_lines names a giver g
 rest_of names near phase.Over a giver g = []
+
+-- the phase behind the line that answers a command
+abbrev pub phase_behind : Line → Phase
+phase_behind (line.Bottleneck sum) = phase.Across 0
+phase_behind (line.Network n m) = phase.Commands
+phase_behind (line.Limit k q) = phase.Commands
+phase_behind (line.Settled routes litres finished) = phase.Commands
+phase_behind line.Drained = phase.Commands
+phase_behind (line.Tally d) = phase.Commands
+phase_behind (line.Across k tail head q) = phase.Commands
+phase_behind (line.Refused e) = phase.Commands
 
 -- of a desk over any network and with any search, by what the network means and which part answers for its reaches
 module _ {N S : Type 0} (means : N → Net) (gives : N → ℕ → Part) where

@@ -1,8 +1,9 @@
 ghost use Rattle.std.specs.Prelude.{◌≡◌};
 ghost use Rattle.drawing.specs.Records.{said};
-ghost use Rattle.desk.specs.Commands.{command_of, allowed};
+ghost use Rattle.desk.specs.Commands.{command_of, allowed, call_of};
 
 use drawing::Record;
+use performing::Call;
 use refusal::Fault;
 
 // A command that the program carries out.
@@ -29,6 +30,24 @@ impl TryFrom<Record<'_>> for Command {
             Record::Tally => Ok(Command::Tally),
             Record::Bottleneck => Ok(Command::Bottleneck),
             _ => Err(Fault::ByteNotAllowed),
+        }
+    }
+}
+
+impl From<Command> for Call {
+    ghost from_gives = { λ command call. call ≡ call_of command };
+
+    // The call that carries out a command.
+    fn from(command: Command) -> Call {
+        match command {
+            Command::Limit { reach, limit } => Call::Limit {
+                reach: usize::from(reach),
+                limit,
+            },
+            Command::Settle { budget } => Call::Settle { budget },
+            Command::Drain => Call::Drain,
+            Command::Tally => Call::Tally,
+            Command::Bottleneck => Call::Bottleneck,
         }
     }
 }

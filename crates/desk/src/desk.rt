@@ -1,18 +1,23 @@
-ghost use Rattle.std.specs.Prelude.{◌≡◌, ℕ, ◌∷◌, length};
+ghost use Rattle.std.specs.Prelude.{◌≡◌, ℕ, ◌∷◌, ◌<◌, length};
 ghost use Rattle.std.specs.Iterator.{YieldsFirstBy, item_count};
+ghost use Rattle.flow.specs.Net.{arc_at};
+ghost use Rattle.naming.specs.Keeping.{names_in};
 ghost use Rattle.drawing.specs.Ahead.{ahead};
 ghost use Rattle.desk.specs.declared.desk.Phase.TheVariants as phases;
-ghost use Rattle.desk.specs.Lines.{line_text, network_line};
-ghost use Rattle.desk.specs.Commands.{asked, asked_as};
-ghost use Rattle.desk.specs.Answering.{answered, opened_lines};
-ghost use Rattle.desk.specs.Laws.{lines_for};
-ghost use Rattle.desk.specs.Rest.{rest};
+ghost use Rattle.desk.specs.Lines.{line_text, network_line, across_line};
+ghost use Rattle.desk.specs.Commands.{ask, asked, asked_as};
+ghost use Rattle.desk.specs.Answering.{command_lines, opened_lines};
+ghost use Rattle.desk.specs.Laws.{answers_in, lines_for};
+ghost use Rattle.desk.specs.Rest.{rest, phase_behind};
 
 use crate::answer::carry_out;
 use crate::command::Command;
 use crate::line::Line;
 use drawing::Reader;
+use marking::next_crossing;
+use naming::Names;
 use network::Network;
+use network::bounds::MOST_JUNCTIONS;
 use refusal::{Part, Refusal};
 use routes::Search;
 use std::mem;
@@ -24,6 +29,8 @@ enum Phase {
     Opening,
     // The network was told, and this command, whose record stands at the place, is carried out next.
     Held { command: Command, place: usize },
+    // A bottleneck was told, and then the reaches that cross it, each that is below this number.
+    Across { next: usize },
     // Commands are read.
     Commands,
     // All lines were given.
@@ -36,6 +43,9 @@ pub struct Desk<'a, N: Network, S> {
     reader: Reader<'a>,
     network: N,
     search: S,
+    names: Names<'a>,
+    // which junctions are near, where a bottleneck was told last
+    marks: [u8; MOST_JUNCTIONS],
     phase: Phase,
 }
 
@@ -54,7 +64,7 @@ fn next_command(reader: &mut Reader<'_>) -> Result<Option<(Command, usize)>, Ref
 }
 
 // The line that tells the size of a network.
-fn network_line<N: Network>(net: &N) -> Line
+fn network_line<N: Network>(net: &N) -> Line<'static>
     ensures { line_text result ≡ network_line (N.meaning net.now).junctions (length (N.meaning net.now).reaches) }
 {
     let size = net.size();
@@ -64,23 +74,49 @@ fn network_line<N: Network>(net: &N) -> Line
     }
 }
 
+// The line that tells a reach which crosses the bottleneck.
+fn across_line<'a, N: Network>(net: &N, names: &Names<'a>, number: usize) -> Line<'a>
+    requires { number < length (N.meaning net.now).reaches }
+    ensures { line_text result ≡ across_line (names_in names.now) number (arc_at (N.meaning net.now).reaches number) }
+{
+    let reach = net.reach(number).unwrap();
+    Line::Across {
+        reach: number,
+        tail: names.label(reach.tail),
+        head: names.label(reach.head),
+        limit: reach.limit,
+    }
+}
+
+// The phase behind a line that answers a command: the reaches that cross a bottleneck are told behind its line.
+fn phase_behind(line: &Line<'_>) -> Phase
+    ensures { result ≡ phase_behind line.now }
+{
+    match line {
+        Line::Bottleneck(_) => Phase::Across { next: 0 },
+        _ => Phase::Commands,
+    }
+}
+
 impl<'a, N: Network, S: Search + Default + Drop> Desk<'a, N, S> {
-    // A desk for the commands that the reader has ahead of it.
-    pub fn new(reader: Reader<'a>, network: N, search: S) -> Desk<'a, N, S>
+    // A desk for the commands that the reader has ahead of it. Junctions that have a name are shown by it.
+    pub fn new(reader: Reader<'a>, network: N, search: S, names: Names<'a>) -> Desk<'a, N, S>
         ensures lines { rest N.meaning N.giver result
-            ≡ opened_lines (asked (ahead reader.entry)) (N.giver network) (N.meaning network) }
-        ensures count { length (rest N.meaning N.giver result) ≡ lines_for (asked (ahead reader.entry)) }
+            ≡ opened_lines (names_in names.entry) (asked (ahead reader.entry)) (N.giver network) (N.meaning network) }
+        ensures count { answers_in (rest N.meaning N.giver result) ≡ lines_for (asked (ahead reader.entry)) }
     {
         Desk {
             reader,
             network,
             search,
+            names,
+            marks: [0; MOST_JUNCTIONS],
             phase: Phase::Opening,
         }
     }
 
     // The first line.
-    fn open(&mut self) -> Line
+    fn open(&mut self) -> Line<'a>
         requires { self.old.phase ≡ phases.Opening }
         ensures { rest N.meaning N.giver self.old ≡ line_text result ∷ rest N.meaning N.giver self.new }
     {
@@ -100,25 +136,24 @@ impl<'a, N: Network, S: Search + Default + Drop> Desk<'a, N, S> {
     }
 
     // The line of a command whose record stands at the place. The search is moved through the call.
-    fn answer(&mut self, command: Command, place: usize) -> Line
-        ensures done { (line_text result, N.meaning self.new.network)
-            ≡ answered command place (N.giver self.old.network) (N.meaning self.old.network) }
-        ensures giver { (j : ℕ) → N.giver self.new.network j ≡ N.giver self.old.network j }
-        ensures reader { self.new.reader ≡ self.old.reader }
-        ensures phase { self.new.phase ≡ self.old.phase }
+    fn answer(&mut self, command: Command, place: usize) -> Line<'a>
+        ensures { command_lines (names_in self.old.names) (ask command place (asked (ahead self.old.reader)))
+            (N.giver self.old.network) (N.meaning self.old.network) ≡ line_text result ∷ rest N.meaning N.giver self.new }
     {
         let (search, line) = carry_out(
             &mut self.network,
             mem::take(&mut self.search),
             command,
             place,
+            &mut self.marks,
         );
         self.search = search;
+        self.phase = phase_behind(&line);
         line
     }
 
     // The line of the next command, once the network is told.
-    fn command(&mut self) -> Option<Line>
+    fn command(&mut self) -> Option<Line<'a>>
         requires { self.old.phase ≡ phases.Commands }
         ensures { YieldsFirstBy line_text (rest N.meaning N.giver) self.old result self.new }
     {
@@ -135,16 +170,27 @@ impl<'a, N: Network, S: Search + Default + Drop> Desk<'a, N, S> {
         }
     }
 
+    // The line of the next reach that crosses the bottleneck, from this number on; or else that of the next command.
+    fn across(&mut self, next: usize) -> Option<Line<'a>>
+        requires { self.old.phase ≡ phases.Across next }
+        ensures { YieldsFirstBy line_text (rest N.meaning N.giver) self.old result self.new }
+    {
+        let Some(number) = next_crossing(&self.network, &self.marks, next) else {
+            self.phase = Phase::Commands;
+            return self.command();
+        };
+        self.phase = Phase::Across { next: number + 1 };
+        Some(across_line(&self.network, &self.names, number))
+    }
+
     // The next line, or nothing where all lines were given.
-    pub fn next_line(&mut self) -> Option<Line>
+    pub fn next_line(&mut self) -> Option<Line<'a>>
         ensures { YieldsFirstBy line_text (rest N.meaning N.giver) self.old result self.new }
     {
         match self.phase {
             Phase::Opening => Some(self.open()),
-            Phase::Held { command, place } => {
-                self.phase = Phase::Commands;
-                Some(self.answer(command, place))
-            }
+            Phase::Held { command, place } => Some(self.answer(command, place)),
+            Phase::Across { next } => self.across(next),
             Phase::Commands => self.command(),
             Phase::Over => None,
         }
@@ -153,14 +199,14 @@ impl<'a, N: Network, S: Search + Default + Drop> Desk<'a, N, S> {
 
 // The lines, one after the other, up to the last. An iterator can be dropped, and so its network has to be one that can;
 // `next_line` asks no such thing.
-impl<N: Network + Drop, S: Search + Default + Drop> Iterator for Desk<'_, N, S> {
-    type Item = Line;
+impl<'a, N: Network + Drop, S: Search + Default + Drop> Iterator for Desk<'a, N, S> {
+    type Item = Line<'a>;
 
     ghost next_gives = { YieldsFirstBy line_text (rest N.meaning N.giver) };
 
     ghost remaining = { item_count (rest N.meaning N.giver) };
 
-    fn next(&mut self) -> Option<Line> {
+    fn next(&mut self) -> Option<Line<'a>> {
         self.next_line()
     }
 }

@@ -1,13 +1,13 @@
-ghost use Rattle.std.specs.Prelude.{◌≡◌, Some};
-ghost use Rattle.desk.specs.Lines.{line_text, settled_line};
+ghost use Rattle.std.specs.Prelude.{Some};
+ghost use Rattle.desk.specs.Lines.{line_text};
 
-use calls::Settled;
+use naming::Label;
 use refusal::Refusal;
 use std::fmt;
 
 // A line that the program prints. Its `Display` is the text of the line, without its end.
 #[derive(Clone, Copy)]
-pub enum Line {
+pub enum Line<'a> {
     // How many junctions and reaches the network has.
     Network {
         junctions: u16,
@@ -15,7 +15,7 @@ pub enum Line {
     },
     // The limit of a reach was set.
     Limit {
-        reach: u16,
+        reach: usize,
         limit: u32,
     },
     // Routes were pushed, and so many litres with them; whether none is left.
@@ -28,29 +28,20 @@ pub enum Line {
     Drained,
     // What the network delivers.
     Tally(i64),
+    // The sum of the limits of the reaches that cross the bottleneck.
+    Bottleneck(u64),
+    // One reach that crosses the bottleneck, and its ends.
+    Across {
+        reach: usize,
+        tail: Label<'a>,
+        head: Label<'a>,
+        limit: u32,
+    },
     // The drawing, or one of its commands, was refused.
     Refused(Refusal),
 }
 
-impl From<Settled> for Line {
-    ghost from_gives = { λ s l. line_text l ≡ settled_line s.routes s.litres s.finished };
-
-    // The line that tells what settling answered.
-    fn from(settled: Settled) -> Line {
-        let Settled {
-            routes,
-            litres,
-            finished,
-        } = settled;
-        Line::Settled {
-            routes,
-            litres,
-            finished,
-        }
-    }
-}
-
-impl fmt::Display for Line {
+impl fmt::Display for Line<'_> {
     ghost output = { λ l. Some (line_text l) };
 
     fn fmt<W: fmt::Write>(&self, f: &mut fmt::Formatter<W>) -> fmt::Result {
@@ -67,6 +58,13 @@ impl fmt::Display for Line {
             }
             Line::Drained => f.write_str("drained"),
             Line::Tally(delivered) => write!(f, "tally {delivered}"),
+            Line::Bottleneck(sum) => write!(f, "bottleneck {sum}"),
+            Line::Across {
+                reach,
+                tail,
+                head,
+                limit,
+            } => write!(f, "across {reach} {tail} {head} {limit}"),
             Line::Refused(refusal) => write!(f, "{refusal}"),
         }
     }

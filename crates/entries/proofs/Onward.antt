@@ -4,15 +4,16 @@ use Rattle.refusal.specs.declared.Part.{Part}
 use Rattle.refusal.specs.Checks.{first_of}
 use Rattle.flow.specs.Net.{Arc, Net}
 use Rattle.chambers.specs.Entering.{chamber_checks, chamber_reach}
+use Rattle.naming.specs.Names.{Naming}
 use Rattle.drawing.specs.Records.{chamber}
 use Rattle.drawing.specs.Ahead.{Drawn, item}
 use Rattle.desk.specs.Lines.{refusable}
 use Rattle.entries.specs.Entered.{chamber_lines}
 
-pub chamber_more : (d rest : Drawn) (p j q : ℕ) (g : Net) (giver : ℕ → Part) (own more : List Arc) →
+pub chamber_more : (names : Naming) (d rest : Drawn) (p j q : ℕ) (g : Net) (giver : ℕ → Part) (own more : List Arc) →
     d ≡ item p (chamber j q) rest → first_of (chamber_checks g own j q) ≡ None →
-    more ≡ own ++ (chamber_reach g own j q ∷ []) → chamber_lines rest g giver more ≡ chamber_lines d g giver own
-chamber_more d rest p j q g giver own more told free put =
-    ap (chamber_lines rest g giver) put
-    ∙ sym (ap (λ (o : Option (ℕ × Part)). refusable o p (chamber_lines rest g giver (own ++ (chamber_reach g own j q ∷ [])))) free)
-    ∙ sym (ap (λ (x : Drawn). chamber_lines x g giver own) told)
+    more ≡ own ++ (chamber_reach g own j q ∷ []) → chamber_lines names rest g giver more ≡ chamber_lines names d g giver own
+chamber_more names d rest p j q g giver own more told free put =
+    ap (chamber_lines names rest g giver) put
+    ∙ sym (ap (λ (o : Option (ℕ × Part)). refusable o p (chamber_lines names rest g giver (own ++ (chamber_reach g own j q ∷ [])))) free)
+    ∙ sym (ap (λ (x : Drawn). chamber_lines names x g giver own) told)

@@ -49,10 +49,12 @@ feed_at None p g fs next other = other
 
 -- sources and sinks, and then the commands, over the network with all of them
 abbrev pub then_commands : Naming → Drawn → Net → (ℕ → Part) → Feeders → Lines
-then_commands names d g giver fs = opened_lines names (asked d) (layer_giver parts.Gathering g giver) (gathered g (listed fs))
+then_commands names d g giver fs =
+    opened_lines names (asked d) (layer_giver parts.Gathering g giver) (gathered g (listed fs))
 
 abbrev pub feeder_lines : Naming → Drawn → Net → (ℕ → Part) → Feeders → Lines
-feeder_lines names (item p a rest) g giver fs = feed_at (feed_in a) p g fs (feeder_lines names rest g giver) (then_commands names (item p a rest) g giver fs)
+feeder_lines names (item p a rest) g giver fs =
+    feed_at (feed_in a) p g fs (feeder_lines names rest g giver) (then_commands names (item p a rest) g giver fs)
 feeder_lines names (end p) g giver fs = then_commands names (end p) g giver fs
 feeder_lines names (refused e) g giver fs = then_commands names (refused e) g giver fs
 
@@ -80,7 +82,8 @@ chamber_at None p g own next other = other
 
 -- chambers, and then sources and sinks, over the network with all chambers
 abbrev pub then_feeders : Naming → Drawn → Net → (ℕ → Part) → List Arc → Lines
-then_feeders names d g giver own = feeder_lines names d (chambered g own) (layer_giver parts.Chambers g giver) no_feeders
+then_feeders names d g giver own =
+    feeder_lines names d (chambered g own) (layer_giver parts.Chambers g giver) no_feeders
 
 abbrev pub chamber_lines : Naming → Drawn → Net → (ℕ → Part) → List Arc → Lines
 chamber_lines names (item p a rest) g giver own =

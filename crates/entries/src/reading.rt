@@ -2,6 +2,7 @@
 // left to the reader, as is a refusal of the reader's own: whoever reads on meets it. The loops for the two layers are
 // two: they take other records and hand on other numbers, and a trait over both would be longer than one of them.
 ghost use Rattle.std.specs.Prelude.{◌≡◌};
+ghost use Rattle.naming.specs.Names.{Naming};
 ghost use Rattle.drawing.specs.Ahead.{ahead};
 ghost use Rattle.desk.specs.Lines.{going_on};
 ghost use Rattle.desk.specs.Commands.{asked};
@@ -25,9 +26,10 @@ pub fn enter_chambers<N: Network>(
     layer: &mut Chambers<N>,
 ) -> Result<(), Refusal>
     ensures below { layer.new.extended.below ≡ layer.old.extended.below }
-    ensures lines { chamber_lines (ahead reader.old) (N.meaning layer.old.extended.below)
+    ensures lines { (names : Naming) → chamber_lines names (ahead reader.old) (N.meaning layer.old.extended.below)
         (N.giver layer.old.extended.below) (own_arcs layer.old.extended.own)
-        ≡ going_on result (feeder_lines (ahead reader.new) (chambers_net layer.new) (chambers_giver layer.new) no_feeders) }
+        ≡ going_on result (feeder_lines names (ahead reader.new) (chambers_net layer.new) (chambers_giver layer.new)
+        no_feeders) }
 {
     'reading: loop {
         let place = reader.place();
@@ -48,9 +50,10 @@ pub fn enter_feeders<N: Network>(
     layer: &mut Gathering<N>,
 ) -> Result<(), Refusal>
     ensures below { layer.new.extended.below ≡ layer.old.extended.below }
-    ensures lines { feeder_lines (ahead reader.old) (N.meaning layer.old.extended.below)
+    ensures lines { (names : Naming) → feeder_lines names (ahead reader.old) (N.meaning layer.old.extended.below)
         (N.giver layer.old.extended.below) (feeders_of layer.old)
-        ≡ going_on result (opened_lines (asked (ahead reader.new)) (gathering_giver layer.new) (gathering_net layer.new)) }
+        ≡ going_on result (opened_lines names (asked (ahead reader.new)) (gathering_giver layer.new)
+        (gathering_net layer.new)) }
 {
     'reading: loop {
         let place = reader.place();

@@ -11,6 +11,7 @@ use routes::{FIRST_STEP, OpenSteps};
 
 // The marks of a junction that is near, and of one that is far.
 pub(crate) const NEAR: u8 = 1;
+
 pub(crate) const FAR: u8 = 0;
 
 // The marks of all junctions. Found from the intake on, along open steps, by a queue of the junctions that are marked and

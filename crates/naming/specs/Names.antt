@@ -1,6 +1,5 @@
 -- Names of junctions, and how a junction is shown.
-use Rattle.std.specs.Prelude.{ℕ, cond, ◌&&◌, List, Some, None, Option, decimal, ◌==◌, nat_lt}
-use Rattle.core.specs.Str.{encode_utf8_all}
+use Rattle.std.specs.Prelude.{ℕ, cond, ◌&&◌, List, Some, None, Option, decimal, ◌==◌, nat_lt, encode_utf8_all}
 use Rattle.flow.specs.Bounds.{most_junctions}
 
 -- the name of each junction, if it has one

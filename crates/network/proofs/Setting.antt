@@ -34,7 +34,7 @@ module _ (c : Change) (rs : List Arc) (giver : ℕ → Part) (k : ℕ) where
 carry_fits : (a : ℕ) (r : Arc) (p : Part) → first_of (own_checks (Carry a) r p) ≡ None → a ≤ r.limit
 carry_fits a r p none = grind (arith, nat_tests)
 
-limit_fits : (q : ℕ) (r : Arc) (p : Part) → first_of (own_checks (Limit q) r p) ≡ None → (r.carried ≤ q) × (q ≤ highest_setting)
+pub limit_fits : (q : ℕ) (r : Arc) (p : Part) → first_of (own_checks (Limit q) r p) ≡ None → (r.carried ≤ q) × (q ≤ highest_setting)
 limit_fits q r p none = grind (arith, nat_tests)
 
 module _ (g : Net) (giver : ℕ → Part) (k : ℕ) (s : Sound g) where

@@ -14,8 +14,8 @@ use routes::Search;
 // Makes one call on a network, whatever call it is, and answers or refuses as that call does. Settling goes by this search,
 // which comes back resting; a bottleneck writes these marks.
 //
-// The clause `promise`: wherever calls have led a network that was commissioned and dry, this one leads it on, and the third
-// promise holds of all of them, whole.
+// The clause `promise`: wherever calls have led a network that was commissioned and dry, this one leads it on, and all that
+// `Promise` of crate flow says holds of all of them.
 pub fn perform<N: Network, S: Search>(
     net: &mut N,
     search: S,

@@ -5,3 +5,4 @@ pub mod Asking
 pub mod Accounts
 pub mod Standing
 pub mod Setups
+pub mod Worked

@@ -2,6 +2,7 @@
 // each under a search of its own.
 use crate::changing::ReachChange;
 use crate::comparing::are_same_networks;
+use crate::cutting::{Asked, ask, is_same_with_just_enough, refuses_too_few};
 use crate::figures::Figures;
 use crate::form::Form;
 use crate::making::make;
@@ -82,8 +83,19 @@ fn settle_alike<N: Network, S: Search>(
 }
 
 impl<N: Network> Copies<N> {
-    // Settles all four with the same budget, and adds to the figures what was found.
+    // Settles all four with the same budget, asks for the bottleneck before and after, and adds to the figures what was found.
     pub fn settle(&mut self, budget: u32, asking: Asking, figures: &mut Figures) {
+        let before = self.ask(figures);
+        let wanted = self.settle_all(budget, asking, figures);
+        let after = self.ask(figures);
+        // No route exists at first exactly where none was pushed and none is left; and in the end exactly where none is left.
+        let no_route = wanted.routes == 0 && wanted.finished;
+        figures.same &= before.answer.is_ok() == no_route;
+        figures.same &= after.answer.is_ok() == wanted.finished;
+    }
+
+    // Settles all four, and answers what each of them is to answer.
+    fn settle_all(&mut self, budget: u32, asking: Asking, figures: &mut Figures) -> Settled {
         let stepped = settle_by_routes(&mut self.by_routes, budget, asking, &mut figures.checksum);
         let wanted = stepped.settled;
         let net = &self.by_routes;
@@ -92,6 +104,22 @@ impl<N: Network> Copies<N> {
         let (_, third) = settle_alike(&mut self.dd2, Dd2, budget, wanted, net);
         figures.add_settled(wanted, net);
         figures.same &= stepped.same && first && second && third;
+        wanted
+    }
+
+    // Asks for the bottleneck of all four, adds to the figures what was found, and answers it.
+    fn ask(&mut self, figures: &mut Figures) -> Asked {
+        let net = &self.by_routes;
+        let n = net.size().junctions;
+        let asked = ask(net);
+        figures.add_cut(&asked, n);
+        figures.same &= asked.leaves_later_marks(n);
+        figures.same &= refuses_too_few(net) && is_same_with_just_enough(net, &asked);
+        let (_, first) = asked.is_same_by(&mut self.breadth_first, BreadthFirst);
+        let (_, second) = asked.is_same_by(&mut self.dd1, Dd1);
+        let (_, third) = asked.is_same_by(&mut self.dd2, Dd2);
+        figures.same &= first && second && third;
+        asked
     }
 
     // Makes the same change to all four, and says whether they answered the same.

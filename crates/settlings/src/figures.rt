@@ -1,5 +1,7 @@
 use crate::checksum::Checksum;
+use crate::cutting::Asked;
 use calls::Settled;
+use marking::Bottleneck;
 use network::{Network, Reaches};
 use std::fmt;
 
@@ -15,6 +17,9 @@ pub struct Figures {
     pub same: bool,
     // whether the last settling left no route
     pub finished: bool,
+    // the last bottleneck that was answered, and the checksum of all that was answered and refused when one was asked for
+    pub cut: Bottleneck,
+    pub cuts: Checksum,
 }
 
 impl Figures {
@@ -26,6 +31,11 @@ impl Figures {
             checksum: Checksum::new(),
             same: true,
             finished: false,
+            cut: Bottleneck {
+                sum: 0,
+                crossing: 0,
+            },
+            cuts: Checksum::new(),
         }
     }
 
@@ -41,10 +51,20 @@ impl Figures {
             self.checksum.add(u64::from(reach.carried));
         }
     }
+
+    // Adds what was answered for the bottleneck of a network with n junctions.
+    pub fn add_cut(&mut self, asked: &Asked, n: u16) {
+        self.cut = asked.answer.unwrap_or(self.cut);
+        asked.add_to(&mut self.cuts, n);
+    }
 }
 
 impl fmt::Display for Figures {
     fn fmt<W: fmt::Write>(&self, f: &mut fmt::Formatter<W>) -> fmt::Result {
-        write!(f, "{} {} {}", self.routes, self.litres, self.checksum)
+        write!(
+            f,
+            "{} {} {}, bottleneck {} {} {}",
+            self.routes, self.litres, self.checksum, self.cut.sum, self.cut.crossing, self.cuts,
+        )
     }
 }

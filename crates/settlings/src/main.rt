@@ -1,5 +1,6 @@
 // Makes many networks, as dice draw them. Settles each by the call `settle`, under each of the three searches, and route
-// by route, asking all three for each route and pushing it here. Prints what was found, and whether all agreed.
+// by route, asking all three for each route and pushing it here. Asks for the bottleneck before and after each settling.
+// Prints what was found, and whether all agreed.
 // tools/make_settlings.py makes the same lines by a model of its own, and compares them with a solver made elsewhere.
 #![tactic(auto)]
 
@@ -7,6 +8,7 @@ mod changing;
 mod checksum;
 mod comparing;
 mod copies;
+mod cutting;
 mod dice;
 mod drawing;
 mod ends;

@@ -20,7 +20,7 @@ reading-preserved g c =
     let free : first_of (chamber_checks net own j q) ≡ None = search rules in
     let more : own_arcs c.enter.new.self.extended.own ≡ own ++ (chamber_reach net own j q ∷ []) = search rules in (
       c.enter.ensures.below ∙ c.reading.invariant.0,
-      chamber_more (ahead c.reading.reader) (ahead c.next.new.self) place j q net (g.N.Network.giver first) own
+      λ names. chamber_more names (ahead c.reading.reader) (ahead c.next.new.self) place j q net (g.N.Network.giver first) own
           (own_arcs c.enter.new.self.extended.own) told free more
-          ∙ c.reading.invariant.1,
+          ∙ c.reading.invariant.1 names,
     )

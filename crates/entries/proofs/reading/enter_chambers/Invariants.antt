@@ -1,5 +1,6 @@
 use Rattle.std.proofs.Common.{◌≡◌}
 use Rattle.layer.specs.Keeping.{own_arcs}
+use Rattle.naming.specs.Names.{Naming}
 use Rattle.drawing.specs.Ahead.{ahead, records_left}
 use Rattle.entries.specs.Entered.{chamber_lines}
 use Rattle.entries.proofs.reading.enter_chambers.Given as goal
@@ -10,8 +11,8 @@ invariant-reading g l =
     let net = g.N.Network.meaning l.initial.layer.extended.below in
     let giver = g.N.Network.giver l.initial.layer.extended.below in
     (l.layer.extended.below ≡ l.initial.layer.extended.below)
-    × (chamber_lines (ahead l.reader) net giver (own_arcs l.layer.extended.own)
-    ≡ chamber_lines (ahead l.initial.reader) net giver (own_arcs l.initial.layer.extended.own))
+    × ((names : Naming) → chamber_lines names (ahead l.reader) net giver (own_arcs l.layer.extended.own)
+    ≡ chamber_lines names (ahead l.initial.reader) net giver (own_arcs l.initial.layer.extended.own))
 
 abbrev pub decreases-reading : goal.decreases-reading
 decreases-reading g l = records_left (ahead l.reader)

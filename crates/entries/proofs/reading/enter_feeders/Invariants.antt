@@ -1,5 +1,6 @@
 use Rattle.std.proofs.Common.{◌≡◌}
 use Rattle.gathering.specs.Standing.{feeders_of}
+use Rattle.naming.specs.Names.{Naming}
 use Rattle.drawing.specs.Ahead.{ahead, records_left}
 use Rattle.entries.specs.Entered.{feeder_lines}
 use Rattle.entries.proofs.reading.enter_feeders.Given as goal
@@ -10,8 +11,8 @@ invariant-reading g l =
     let net = g.N.Network.meaning l.initial.layer.extended.below in
     let giver = g.N.Network.giver l.initial.layer.extended.below in
     (l.layer.extended.below ≡ l.initial.layer.extended.below)
-    × (feeder_lines (ahead l.reader) net giver (feeders_of l.layer)
-    ≡ feeder_lines (ahead l.initial.reader) net giver (feeders_of l.initial.layer))
+    × ((names : Naming) → feeder_lines names (ahead l.reader) net giver (feeders_of l.layer)
+    ≡ feeder_lines names (ahead l.initial.reader) net giver (feeders_of l.initial.layer))
 
 abbrev pub decreases-reading : goal.decreases-reading
 decreases-reading g l = records_left (ahead l.reader)

@@ -12,29 +12,17 @@ returns-clause-once g c = told_once _ _
 pub returns-in_err-reader-clause-account : goal.returns-in_err-reader-clause-account
 returns-in_err-reader-clause-account g c = accounted _ _
 
-pub returns-in_err-lay_table-clause-account : goal.returns-in_err-lay_table-clause-account
-returns-in_err-lay_table-clause-account g c = accounted _ _
-
-pub returns-in_err-enter_chambers-clause-account : goal.returns-in_err-enter_chambers-clause-account
-returns-in_err-enter_chambers-clause-account g c = accounted _ _
-
-pub returns-in_err-enter_feeders-clause-account : goal.returns-in_err-enter_feeders-clause-account
-returns-in_err-enter_feeders-clause-account g c = accounted _ _
-
 pub returns-clause-account : goal.returns-clause-account
 returns-clause-account g c = accounted _ _
 
 pub returns-in_err-reader-clause-stands : goal.returns-in_err-reader-clause-stands
 returns-in_err-reader-clause-stands g c = stands_firm c.args.rows.now c.args.input.now
 
-pub returns-in_err-lay_table-clause-stands : goal.returns-in_err-lay_table-clause-stands
-returns-in_err-lay_table-clause-stands g c = stands_firm c.args.rows.now c.args.input.now
-
-pub returns-in_err-enter_chambers-clause-stands : goal.returns-in_err-enter_chambers-clause-stands
-returns-in_err-enter_chambers-clause-stands g c = stands_firm c.args.rows.now c.args.input.now
-
-pub returns-in_err-enter_feeders-clause-stands : goal.returns-in_err-enter_feeders-clause-stands
-returns-in_err-enter_feeders-clause-stands g c = stands_firm c.args.rows.now c.args.input.now
-
 pub returns-clause-stands : goal.returns-clause-stands
 returns-clause-stands g c = stands_firm c.args.rows.now c.args.input.now
+
+pub returns-in_err-enter_chambers-clause-stands : goal.returns-in_err-enter_chambers-clause-stands
+returns-in_err-enter_chambers-clause-stands g c = stands_firm _ _
+
+pub returns-in_err-enter_feeders-clause-stands : goal.returns-in_err-enter_feeders-clause-stands
+returns-in_err-enter_feeders-clause-stands g c = stands_firm _ _

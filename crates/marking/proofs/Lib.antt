@@ -1,0 +1,3 @@
+pub mod Spreading
+pub mod Counting
+pub mod Writing
