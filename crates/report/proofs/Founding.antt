@@ -146,7 +146,8 @@ gathered_dry g (f ∷ fs) dry mine = All-append (λ r. r.carried ≡ 0) g.reache
 
 pub feeders_founded : (g : Net) (fs : Feeders) → CommissionedDry g → Feeding g fs → CommissionedDry (gathered g (listed fs))
 feeders_founded g fs c f =
-    let fits : FeedersFit g.junctions (length g.reaches) (take (length fs.sources) (listed fs)) (drop (length fs.sources) (listed fs)) =
-    rw (take_at fs.sources fs.sinks (length fs.sources) refl, drop_at fs.sources fs.sinks (length fs.sources) refl) f.known.fit in
-    commissioned (gathered g (listed fs)) (gathered_sound g (length fs.sources) (listed fs) (sound g c) fits)
+    let s = length fs.sources in
+    let fits : FeedersFit g.junctions (length g.reaches) (take s (listed fs)) (drop s (listed fs)) =
+    rw (take_at fs.sources fs.sinks s refl, drop_at fs.sources fs.sinks s refl) f.known.fit in
+    commissioned (gathered g (listed fs)) (gathered_sound g s (listed fs) (sound g c) fits)
     (gathered_dry g (listed fs) c.dry (All-append (λ r. r.carried ≡ 0) fs.sources fs.sinks f.sources f.sinks))

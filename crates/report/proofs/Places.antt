@@ -1,15 +1,20 @@
 -- Records come in their order, so none of the table, none of a chamber and none of a feeder comes late.
-use Rattle.std.proofs.Common.{◌≡◌, ℕ, ◌≤◌, List, Some, refl, sym, ap, arith}
+use Rattle.std.proofs.Common.{◌≡◌, ℕ, ◌≤◌, List, ◌∷◌, Some, refl, sym, ap, arith}
 use Rattle.flow.specs.Net.{Arc, Net}
 use Rattle.gathering.specs.Entering.{Feeders}
 use Rattle.drawing.specs.declared.kind.Stage.{Stage}
 use Rattle.drawing.specs.declared.kind.Stage.TheVariants as s
 use Rattle.drawing.specs.Kinds.{Group, opening, tabled, closing, chambers, gathered, commands, group_of, place_of}
-use Rattle.drawing.specs.Records.{Said, shape, reach, chamber, source, sink}
+use Rattle.drawing.specs.Records.{Said, shape, reach, chamber, source, sink, limit, settle, drain, bottleneck, tally}
 use Rattle.drawing.specs.Spelling.{written}
 use Rattle.drawing.specs.Ahead.{Drawn, item, end, refused}
 use Rattle.drawing.specs.Order.{InOrder}
+use Rattle.desk.specs.declared.command.Command.{Command}
+use Rattle.desk.specs.declared.command.Command.TheVariants as command
+use Rattle.desk.specs.Commands.{asked}
+use Rattle.report.specs.Asking.{commands_of}
 use Rattle.report.specs.Described.{table_of, chambers_of, feeders_of}
+use Rattle.report.proofs.Calling.{commands_in}
 
 -- the stages in their order, and the stage that a record of a group leads to
 abbrev pub rank : Stage → ℕ
@@ -81,3 +86,25 @@ feeders_over (item p a rest) stage g fs past h =
     feeders_over rest h.0 g fs (omega (arith, l.onward, l.at)) h.2
 feeders_over (end p) stage g fs past h = refl
 feeders_over (refused e) stage g fs past h = refl
+
+-- and commands are all that comes
+pub commands_over : (d : Drawn) (stage : Stage) → 4 ≤ rank stage → InOrder stage d → commands_in (asked d) ≡ commands_of d
+commands_over (item p (limit k q) rest) stage past h =
+    let at = (led_by stage p (limit k q) rest h).at in
+    ap (λ (cs : List Command). command.Limit k q ∷ cs) (commands_over rest h.0 (omega (arith, at)) h.2)
+commands_over (item p (settle b) rest) stage past h =
+    let at = (led_by stage p (settle b) rest h).at in
+    ap (λ (cs : List Command). command.Settle b ∷ cs) (commands_over rest h.0 (omega (arith, at)) h.2)
+commands_over (item p drain rest) stage past h =
+    let at = (led_by stage p drain rest h).at in
+    ap (λ (cs : List Command). command.Drain ∷ cs) (commands_over rest h.0 (omega (arith, at)) h.2)
+commands_over (item p bottleneck rest) stage past h =
+    let at = (led_by stage p bottleneck rest h).at in
+    ap (λ (cs : List Command). command.Bottleneck ∷ cs) (commands_over rest h.0 (omega (arith, at)) h.2)
+commands_over (item p tally rest) stage past h =
+    let at = (led_by stage p tally rest h).at in
+    ap (λ (cs : List Command). command.Tally ∷ cs) (commands_over rest h.0 (omega (arith, at)) h.2)
+commands_over (item p a rest) stage past h =
+    absurd (let onward = (led_by stage p a rest h).onward in let z : ⊥ = omega (arith, onward) in z)
+commands_over (end p) stage past h = refl
+commands_over (refused e) stage past h = refl

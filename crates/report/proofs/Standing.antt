@@ -22,9 +22,11 @@ use Rattle.flow.proofs.Marking.{near_of-is}
 use Rattle.network.specs.declared.row.Row.{Row}
 use Rattle.table.specs.Laid.{places_in}
 use Rattle.drawing.specs.Ahead.{drawn}
+use Rattle.desk.specs.declared.command.Command.{Command}
 use Rattle.desk.specs.Lines.{Lines, tally_line, bottleneck_line, network_line}
 use Rattle.report.specs.Laws.{is_refusal}
 use Rattle.report.specs.Accounts.{OneRefusal, TellsCalls, Account, AccountsFor}
+use Rattle.report.specs.Asking.{commands_of}
 use Rattle.report.specs.Described.{described}
 use Rattle.report.specs.Reported.{reported}
 use Rattle.report.proofs.Accounting.{accounted}
@@ -126,12 +128,14 @@ module _ (amount : ℕ) (g : Net) (shaped : Shaped g) (flow : IsFlow g) (finishe
 
 -- ---- all together
 
-account_stands : (start : Net) (answers before : Lines) (l : List ℕ) (between later : Lines) → Account start answers →
-    answers ≡ before ++ (l ∷ (between ++ later)) → SaysFinished l → All Undisturbed between → Stands start before between
-account_stands start answers before l between later a are says calm = record {
+account_stands : (start : Net) (commands : List Command) (answers before : Lines) (l : List ℕ) (between later : Lines) →
+    Account start commands answers → answers ≡ before ++ (l ∷ (between ++ later)) → SaysFinished l → All Undisturbed between →
+    Stands start before between
+account_stands start commands answers before l between later a are says calm = record {
   scheme = limits_set cut.earlier start;
   limits = limits;
-  only = λ other told. relimited_once before start other (limits_set cut.earlier start) a.commissioned.shaped.listed told limits;
+  only = λ other told. relimited_once before start other (limits_set cut.earlier start) a.commissioned.shaped.listed told
+      limits;
   amount = amount;
   most = record {
     most = λ h alike flow. subst (λ (d : ℤ). delivered h ≤ℤ d) best.tight (best.most h (sym same ∙ alike) flow);
@@ -189,18 +193,21 @@ account_stands start answers before l between later a are says calm = record {
     same = alike_limits cut.earlier start start refl ∙ raised.alike
 
 -- a report that accounts for a network stands
-lines_stand : (start : Net) (ls : Lines) → AccountsFor start ls → (first l : List ℕ) (before between later : Lines) →
-    ls ≡ first ∷ (before ++ (l ∷ (between ++ later))) → SaysFinished l → All Undisturbed between → Stands start before between
-lines_stand start ls accounts first l before between later are says calm = ⊎_elim
+lines_stand : (start : Net) (commands : List Command) (ls : Lines) → AccountsFor start commands ls → (first l : List ℕ)
+    (before between later : Lines) → ls ≡ first ∷ (before ++ (l ∷ (between ++ later))) → SaysFinished l →
+    All Undisturbed between → Stands start before between
+lines_stand start commands ls accounts first l before between later are says calm = ⊎_elim
     (λ (r : OneRefusal ls).
     let none : before ++ (l ∷ (between ++ later)) ≡ [] = let e = sym are ∙ r.1 in cc in
     absurd (nothing_behind before l (between ++ later) none))
-    (λ (x : (answers : Lines) × (ls ≡ network_line start.junctions (length start.reaches) ∷ answers) × Account start answers).
+    (λ (x : (answers : Lines) × (ls ≡ network_line start.junctions (length start.reaches) ∷ answers)
+    × Account start commands answers).
     let behind : x.0 ≡ before ++ (l ∷ (between ++ later)) = let e = sym x.1 ∙ are in cc in
-    account_stands start x.0 before l between later x.2 behind says calm)
+    account_stands start commands x.0 before l between later x.2 behind says calm)
     accounts
 
 pub stands_firm : (rows : List Row) (input : List ℕ) → StandsFirm (drawn input) (reported (places_in rows) input)
 stands_firm rows input first l before between later are says calm =
-    lines_stand (described (drawn input)) (reported (places_in rows) input) (accounted rows input) first l before between later
-    are says calm
+    let d = drawn input in
+    lines_stand (described d) (commands_of d) (reported (places_in rows) input) (accounted rows input) first l before between
+    later are says calm
