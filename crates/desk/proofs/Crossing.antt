@@ -7,18 +7,12 @@ use Rattle.std.proofs.lemmas.Bool.{cases_Bool, cases_lt}
 use Rattle.std.proofs.lemmas.List.{drop_all}
 use Rattle.flow.specs.Net.{Arc, no_arc, arc_at, Joined}
 use Rattle.flow.specs.Cuts.{Side, crosses}
+use Rattle.flow.proofs.Besting.{crossing-same}
 use Rattle.network.specs.Touching.{NoneFrom}
 use Rattle.naming.specs.Names.{Naming}
 use Rattle.desk.specs.Lines.{Lines, across_line, across_lines}
 
--- two sides that agree at every junction are crossed by the same reaches
-crossing-same : (near other : Side) (n : ℕ) (r : Arc) → Joined n r → ((v : ℕ) → v < n → near v ≡ other v) →
-    crosses near r ≡ crosses other r
-crossing-same near other n r j same =
-    let tails : near r.tail ≡ other r.tail = same r.tail j.0 in
-    let heads : near r.head ≡ other r.head = same r.head j.1 in
-    cc
-
+-- two sides that agree at every junction have the same lines
 pub across_lines-same : (names : Naming) (near other : Side) (n k : ℕ) (rs : List Arc) → All (Joined n) rs →
     ((v : ℕ) → v < n → near v ≡ other v) → across_lines names near k rs ≡ across_lines names other k rs
 across_lines-same names near other n k [] joined same = refl

@@ -134,7 +134,7 @@ module _ (g : Net) (near : Side) (shaped : Shaped g) (flow : IsFlow g) (finished
   }
 
 -- two sides that agree at every junction are crossed by the same reaches, so what these add up to is the same
-crossing-same : (near other : Side) (n : ℕ) (r : Arc) → Joined n r → ((v : ℕ) → v < n → near v ≡ other v) →
+pub crossing-same : (near other : Side) (n : ℕ) (r : Arc) → Joined n r → ((v : ℕ) → v < n → near v ≡ other v) →
     crosses near r ≡ crosses other r
 crossing-same near other n r j same =
     let tails : near r.tail ≡ other r.tail = same r.tail j.0 in
