@@ -5,8 +5,8 @@ use Rattle.std.proofs.lemmas.Fmt.{decimal_by_steps, decimal_injective}
 use Rattle.std.proofs.lemmas.List.Elements.{All-nil, All-cons, All-head, All-tail, All-push}
 use Rattle.std.proofs.lemmas.Bool.{cases_Bool, cond-false, eqb-true, ne_eqb, false≢true}
 use Rattle.desk.specs.Lines.{limit_line, settled_line}
-use Rattle.desk.specs.Laws.{is_across}
-use Rattle.report.specs.Laws.{starts_with, is_refusal}
+use Rattle.desk.specs.Laws.{starts_with, is_across}
+use Rattle.report.specs.Laws.{is_refusal}
 use Rattle.report.specs.Standing.{SaysFinished, is_limit, is_tally, is_bottleneck}
 
 -- the first byte

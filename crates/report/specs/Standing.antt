@@ -7,7 +7,7 @@ use Rattle.flow.specs.Flows.{delivered, IsFlow}
 use Rattle.flow.specs.Changes.{relimited, Alike}
 use Rattle.drawing.specs.Ahead.{Drawn}
 use Rattle.desk.specs.Lines.{Lines, limit_line, tally_line, bottleneck_line}
-use Rattle.report.specs.Laws.{starts_with}
+use Rattle.desk.specs.Laws.{starts_with}
 use Rattle.report.specs.Described.{described}
 
 -- a line that tells of a settling after which no route is left: it begins with "settled " and ends with "yes"
