@@ -7,7 +7,7 @@ use Rattle.std.proofs.lemmas.Bool.{cases_Bool, cond-false, eqb-true, ne_eqb, fal
 use Rattle.desk.specs.Lines.{limit_line, settled_line}
 use Rattle.desk.specs.Laws.{starts_with, is_across}
 use Rattle.report.specs.Laws.{is_refusal}
-use Rattle.report.specs.Standing.{SaysFinished, is_limit, is_tally, is_bottleneck}
+use Rattle.report.specs.Most.{SaysFinished, is_limit, is_tally, is_bottleneck}
 
 -- the first byte
 abbrev pub first_byte : List ℕ → ℕ

@@ -10,7 +10,7 @@ use Rattle.flow.proofs.Changing.{drained_at}
 use Rattle.flow.proofs.Likeness.{bare, Alike-drained}
 use Rattle.flow.proofs.Machining.{Alike-pushed_all}
 use Rattle.desk.specs.Lines.{Lines}
-use Rattle.report.specs.Standing.{is_limit, Relimited}
+use Rattle.report.specs.Most.{is_limit, Relimited}
 use Rattle.report.proofs.Bytes.{one_limit}
 
 -- what a call does to the limits of a network, and what calls do

@@ -12,7 +12,7 @@ use Rattle.desk.specs.Lines.{Lines, limit_line, settled_line, drained_line, tall
 use Rattle.desk.specs.Laws.{is_across}
 use Rattle.report.specs.Laws.{is_refusal}
 use Rattle.report.specs.Accounts.{OneRefusal, TellsCall, TellsCalls}
-use Rattle.report.specs.Standing.{SaysFinished, is_limit, Relimited}
+use Rattle.report.specs.Most.{SaysFinished, is_limit, Relimited}
 use Rattle.report.proofs.Limits.{limit_set, limits_set, alike_limit}
 use Rattle.report.proofs.Bytes.{first_byte, across_byte, refusal_byte, finished_byte, no_limit_byte, finished_from_yes}
 

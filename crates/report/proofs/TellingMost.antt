@@ -30,7 +30,7 @@ use Rattle.report.specs.Asking.{commands_of}
 use Rattle.report.specs.Described.{described}
 use Rattle.report.specs.Reported.{reported}
 use Rattle.report.proofs.Accounting.{accounted}
-use Rattle.report.specs.Standing.{SaysFinished, is_limit, is_drained, is_tally, is_bottleneck, Undisturbed, Relimited, Agrees, Stands, StandsFirm}
+use Rattle.report.specs.Most.{SaysFinished, is_limit, is_drained, is_tally, is_bottleneck, Undisturbed, Relimited, Agrees, TellsMost, MostTold}
 use Rattle.report.proofs.Limits.{limits_set, alike_limits, relimited_once}
 use Rattle.report.proofs.Bytes.{first_byte, across_byte, refusal_byte, no_tally_byte, no_bottleneck_byte}
 use Rattle.report.proofs.Splitting.{overlap, All-left, All-right, nothing_behind, IsAcross, Says, headed, Cut, cut_at}
@@ -128,10 +128,10 @@ module _ (amount : ℕ) (g : Net) (shaped : Shaped g) (flow : IsFlow g) (finishe
 
 -- ---- all together
 
-account_stands : (start : Net) (commands : List Command) (answers before : Lines) (l : List ℕ) (between later : Lines) →
+account_tells_most : (start : Net) (commands : List Command) (answers before : Lines) (l : List ℕ) (between later : Lines) →
     Account start commands answers → answers ≡ before ++ (l ∷ (between ++ later)) → SaysFinished l → All Undisturbed between →
-    Stands start before between
-account_stands start commands answers before l between later a are says calm = record {
+    TellsMost start before between
+account_tells_most start commands answers before l between later a are says calm = record {
   scheme = limits_set cut.earlier start;
   limits = limits;
   only = λ other told. relimited_once before start other (limits_set cut.earlier start) a.commissioned.shaped.listed told
@@ -192,22 +192,22 @@ account_stands start commands answers before l between later a are says calm = r
     same : Alike (limits_set cut.earlier start) end
     same = alike_limits cut.earlier start start refl ∙ raised.alike
 
--- a report that accounts for a network stands
-lines_stand : (start : Net) (commands : List Command) (ls : Lines) → AccountsFor start commands ls → (first l : List ℕ)
+-- a report that accounts for a network tells the most
+lines_tell_most : (start : Net) (commands : List Command) (ls : Lines) → AccountsFor start commands ls → (first l : List ℕ)
     (before between later : Lines) → ls ≡ first ∷ (before ++ (l ∷ (between ++ later))) → SaysFinished l →
-    All Undisturbed between → Stands start before between
-lines_stand start commands ls accounts first l before between later are says calm = ⊎_elim
+    All Undisturbed between → TellsMost start before between
+lines_tell_most start commands ls accounts first l before between later are says calm = ⊎_elim
     (λ (r : OneRefusal ls).
     let none : before ++ (l ∷ (between ++ later)) ≡ [] = let e = sym are ∙ r.1 in cc in
     absurd (nothing_behind before l (between ++ later) none))
     (λ (x : (answers : Lines) × (ls ≡ network_line start.junctions (length start.reaches) ∷ answers)
     × Account start commands answers).
     let behind : x.0 ≡ before ++ (l ∷ (between ++ later)) = let e = sym x.1 ∙ are in cc in
-    account_stands start commands x.0 before l between later x.2 behind says calm)
+    account_tells_most start commands x.0 before l between later x.2 behind says calm)
     accounts
 
-pub stands_firm : (rows : List Row) (input : List ℕ) → StandsFirm (drawn input) (reported (places_in rows) input)
-stands_firm rows input first l before between later are says calm =
+pub most_told : (rows : List Row) (input : List ℕ) → MostTold (drawn input) (reported (places_in rows) input)
+most_told rows input first l before between later are says calm =
     let d = drawn input in
-    lines_stand (described d) (commands_of d) (reported (places_in rows) input) (accounted rows input) first l before between
+    lines_tell_most (described d) (commands_of d) (reported (places_in rows) input) (accounted rows input) first l before between
     later are says calm
