@@ -4,5 +4,6 @@ pub mod Described
 pub mod Asking
 pub mod Accounts
 pub mod Most
+pub mod Adding
 pub mod Setups
 pub mod Worked

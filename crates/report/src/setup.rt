@@ -11,6 +11,7 @@ ghost use Rattle.report.specs.Reported.{draft_lines, reported};
 ghost use Rattle.report.specs.Laws.{ToldOnce};
 ghost use Rattle.report.specs.Accounts.{Accounted};
 ghost use Rattle.report.specs.Most.{MostTold};
+ghost use Rattle.report.specs.Adding.{AddsUp};
 ghost use Rattle.report.specs.Setups.{Entered, table_lines};
 ghost use Rattle.desk.specs.Rest.{rest};
 
@@ -90,6 +91,7 @@ pub fn open<'a, 't, S: Search + Default + Drop>(
     ensures once { ToldOnce (drawn input.now) (reported (places_in rows.old) input.now) }
     ensures account { Accounted (drawn input.now) (reported (places_in rows.old) input.now) }
     ensures most { MostTold (drawn input.now) (reported (places_in rows.old) input.now) }
+    ensures adds { AddsUp (reported (places_in rows.old) input.now) }
 {
     let mut reader = Reader::open(input)?;
     let mut draft = Draft::new(rows);
