@@ -4,10 +4,11 @@ use Rattle.std.specs.List.{All}
 use Rattle.std.proofs.lemmas.Fmt.{decimal_by_steps, decimal_injective}
 use Rattle.std.proofs.lemmas.List.Elements.{All-nil, All-cons, All-head, All-tail, All-push}
 use Rattle.std.proofs.lemmas.Bool.{cases_Bool, cond-false, eqb-true, ne_eqb, false≢true}
-use Rattle.desk.specs.Lines.{limit_line, settled_line}
-use Rattle.desk.specs.Laws.{is_across}
-use Rattle.report.specs.Laws.{starts_with, is_refusal}
-use Rattle.report.specs.Standing.{SaysFinished, is_limit, is_tally, is_bottleneck}
+use Rattle.desk.specs.Lines.{yes_no, limit_line, settled_line}
+use Rattle.desk.specs.Laws.{starts_with, is_across}
+use Rattle.report.specs.Laws.{is_refusal}
+use Rattle.report.specs.Most.{SaysFinished, is_limit, is_drained, is_tally, is_bottleneck}
+use Rattle.report.specs.Adding.{is_settled}
 
 -- the first byte
 abbrev pub first_byte : List ℕ → ℕ
@@ -37,6 +38,15 @@ finished_byte l says = ap first_byte says.1
 
 pub no_limit_byte : (l : List ℕ) → first_byte l ≢ 108 → is_limit l ≡ false
 no_limit_byte l ne = start_from_first 108 (codes "imit ") l ne
+
+pub no_drained_byte : (l : List ℕ) → first_byte l ≢ 100 → is_drained l ≡ false
+no_drained_byte l ne = start_from_first 100 (codes "rained") l ne
+
+pub no_settled_byte : (l : List ℕ) → first_byte l ≢ 115 → is_settled l ≡ false
+no_settled_byte l ne = start_from_first 115 (codes "ettled ") l ne
+
+pub tally_byte : (l : List ℕ) → is_tally l ≡ true → first_byte l ≡ 116
+tally_byte l is = first_from_start 116 (codes "ally ") l is
 
 pub no_tally_byte : (l : List ℕ) → first_byte l ≢ 116 → is_tally l ≡ false
 no_tally_byte l ne = start_from_first 116 (codes "ally ") l ne
@@ -78,7 +88,7 @@ finished_from_yes routes litres false says =
     one_end 111 115 (settled_line routes litres false) no (subst (EndsIn 115) (sym says.1) yes) in
     absurd (let z : ⊥ = omega (arith, same) in z)
 
--- ---- a line that sets a limit tells one reach and one limit
+-- ---- a line tells its numbers once
 
 abbrev Other : ℕ → ℕ → Type 0
 Other b c = c ≢ b
@@ -109,3 +119,13 @@ one_limit k q i p k-fits q-fits i-fits p-fits e =
     let behind : decimal k ++ (32 ∷ decimal q) ≡ decimal i ++ (32 ∷ decimal p) = ap (drop 6) e in
     let parts = one_front 32 (decimal k) (decimal i) (decimal q) (decimal p) (no_space k k-fits) (no_space i i-fits) behind in
     (decimal_injective k i k-fits i-fits parts.0, decimal_injective q p q-fits p-fits parts.1)
+
+pub one_settled : (n d i p : ℕ) (x y : Bool) → n < 2 ^ 64 → d < 2 ^ 64 → i < 2 ^ 64 → p < 2 ^ 64 →
+    settled_line n d x ≡ settled_line i p y → d ≡ p
+one_settled n d i p x y n-fits d-fits i-fits p-fits e =
+    let more = decimal d ++ (32 ∷ yes_no x) in
+    let others = decimal p ++ (32 ∷ yes_no y) in
+    let behind : decimal n ++ (32 ∷ more) ≡ decimal i ++ (32 ∷ others) = ap (drop 8) e in
+    let parts = one_front 32 (decimal n) (decimal i) more others (no_space n n-fits) (no_space i i-fits) behind in
+    let same = one_front 32 (decimal d) (decimal p) (yes_no x) (yes_no y) (no_space d d-fits) (no_space p p-fits) parts.1 in
+    decimal_injective d p d-fits p-fits same.0

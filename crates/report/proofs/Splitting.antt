@@ -1,20 +1,18 @@
--- The lines of an account, cut where one of them tells of a settling that finished.
-use Rattle.std.proofs.Common.{◌≡◌, ℕ, ◌≢◌, ◌⊎◌, true, false, List, [], ◌∷◌, ◌++◌, length, refl, sym, ap, ◌∙◌, subst, inl, inr, ⊎_elim, arith, length-append}
-use Rattle.std.specs.Prelude.{IsTrue}
+-- The lines of an account, cut at one of them.
+use Rattle.std.proofs.Common.{◌≡◌, ℕ, ◌≢◌, ◌⊎◌, true, List, [], ◌∷◌, ◌++◌, length, refl, sym, ap, ◌∙◌, subst, inl, inr, ⊎_elim, arith, length-append}
 use Rattle.std.specs.List.{All}
 use Rattle.std.proofs.lemmas.List.{append-nil}
 use Rattle.std.proofs.lemmas.List.Elements.{All-nil, All-cons, All-head, All-tail}
 use Rattle.flow.specs.Net.{Net}
-use Rattle.flow.specs.Changes.{Alike}
-use Rattle.flow.specs.Histories.{Outcome, Event, settling, limit_change, draining, tally, bottleneck, reading, refusal, after_call, Happens, IsHistory}
-use Rattle.flow.proofs.Likeness.{bare-alike, length-alike}
-use Rattle.desk.specs.Lines.{Lines, limit_line, settled_line, drained_line, tally_line, bottleneck_line}
+use Rattle.flow.specs.Histories.{Event, settling, limit_change, draining, tally, bottleneck, reading, refusal, after_calls, IsHistory, CommissionedDry}
+use Rattle.flow.specs.Promises.{Promise}
+use Rattle.flow.proofs.Lasting.{IsHistory-before, IsHistory-behind}
+use Rattle.desk.specs.declared.command.Command.{Command}
+use Rattle.desk.specs.Lines.{Lines, limit_line, settled_line, drained_line, tally_line, bottleneck_line, network_line}
 use Rattle.desk.specs.Laws.{is_across}
 use Rattle.report.specs.Laws.{is_refusal}
-use Rattle.report.specs.Accounts.{OneRefusal, TellsCall, TellsCalls}
-use Rattle.report.specs.Standing.{SaysFinished, is_limit, Relimited}
-use Rattle.report.proofs.Limits.{limit_set, limits_set, alike_limit}
-use Rattle.report.proofs.Bytes.{first_byte, across_byte, refusal_byte, finished_byte, no_limit_byte, finished_from_yes}
+use Rattle.report.specs.Accounts.{OneRefusal, TellsCall, TellsCalls, Account, AccountsFor}
+use Rattle.report.proofs.Bytes.{first_byte, across_byte, refusal_byte}
 
 -- ---- lists
 
@@ -80,83 +78,26 @@ headed refusal now t =
     record { line = t.0; across = []; are = t.1; says = t.2; each = All-nil IsAcross; alone = λ ne. refl }
 headed reading now t = absurd t
 
--- ---- the limits that the lines of a call tell
-
--- a line that is no limit's sets none
-no_limit : (l : List ℕ) (ls : Lines) (g h : Net) → is_limit l ≡ false → Relimited ls g h → Relimited (l ∷ ls) g h
-no_limit l ls g h none r = inr (none, r)
-
--- so do lines of crossing reaches
-across_no_limit : (across ls : Lines) (g h : Net) → All IsAcross across → Relimited ls g h → Relimited (across ++ ls) g h
-across_no_limit [] ls g h each r = r
-across_no_limit (l ∷ across) ls g h each r =
-    let first = across_byte l (All-head IsAcross l across each) in
-    let none = no_limit_byte l (λ same. let z : ⊥ = omega (arith, first, same) in z) in
-    inr (none, across_no_limit across ls g h (All-tail IsAcross l across each) r)
-
--- the line of a call sets what the call sets, which happened on a network that is alike but for what it carries
-limit_told : (e : Event) (l : List ℕ) (ls : Lines) (g at h : Net) → Says e l → Alike g at → Happens e at →
-    Relimited ls (limit_set e g) h → Relimited (l ∷ ls) g h
-limit_told (settling budget routes answer) l ls g at h says a p r = no_limit l ls g h (ap is_limit says) r
-limit_told (limit_change k q) l ls g at h says a p r =
-    let many = length-alike g.reaches at.reaches (bare-alike g at a) in
-    inl (k, q, omega (arith, p.0, many), p.1, says, r)
-limit_told draining l ls g at h says a p r = no_limit l ls g h (ap is_limit says) r
-limit_told (tally answer) l ls g at h says a p r = no_limit l ls g h (ap is_limit says) r
-limit_told (bottleneck marks sum crossing) l ls g at h says a p r = no_limit l ls g h (ap is_limit says) r
-limit_told refusal l ls g at h says a p r =
-    let first = refusal_byte l says in
-    no_limit l ls g h (no_limit_byte l (λ same. let z : ⊥ = omega (arith, first, same) in z)) r
-limit_told reading l ls g at h says a p r = absurd says
-
 -- ---- the cut
 
--- the calls before a settling that finished, told by the lines before; it; and the calls behind it, told by the others
-pub record Cut (events : List Event) (before rest : Lines) : Type 0 where
+-- the calls before one, told by the lines before; it, with its only line; and the calls behind it, told by the others
+pub record Cut (events : List Event) (before : Lines) (l : List ℕ) (rest : Lines) : Type 0 where
   pub earlier : List Event
-  pub budget : ℕ
-  pub routes : List (List ℕ)
-  pub answer : Outcome
+  pub call : Event
   pub later : List Event
-  pub are : events ≡ earlier ++ settling budget routes answer ∷ later
-  pub finished : IsTrue answer.finished
-  pub limits : (g at : Net) → Alike g at → IsHistory earlier at → Relimited before g (limits_set earlier g)
+  pub are : events ≡ earlier ++ call ∷ later
+  pub says : Says call l
+  pub told : TellsCalls earlier before
   pub tells : TellsCalls later rest
 
--- the line of a settling that finished is that of no other call
-cut_here : (e : Event) (es : List Event) (l : List ℕ) (rest : Lines) → SaysFinished l → Says e l → TellsCalls es rest →
-    Cut (e ∷ es) [] rest
-cut_here (settling budget routes answer) es l rest finished says tells = record {
-  earlier = [];
-  budget = budget;
-  routes = routes;
-  answer = answer;
-  later = es;
-  are = refl;
-  finished = finished_from_yes answer.routes answer.litres answer.finished (subst SaysFinished says finished);
-  limits = λ g at a history. refl;
-  tells = tells;
-}
-cut_here (limit_change k q) es l rest finished says tells =
-    absurd (let z : ⊥ = omega (arith, finished_byte l finished, ap first_byte says) in z)
-cut_here draining es l rest finished says tells =
-    absurd (let z : ⊥ = omega (arith, finished_byte l finished, ap first_byte says) in z)
-cut_here (tally answer) es l rest finished says tells =
-    absurd (let z : ⊥ = omega (arith, finished_byte l finished, ap first_byte says) in z)
-cut_here (bottleneck marks sum crossing) es l rest finished says tells =
-    absurd (let z : ⊥ = omega (arith, finished_byte l finished, ap first_byte says) in z)
-cut_here refusal es l rest finished says tells =
-    absurd (let z : ⊥ = omega (arith, finished_byte l finished, refusal_byte l says) in z)
-cut_here reading es l rest finished says tells = absurd says
+-- a line that is none of a crossing reach, of a bottleneck or of a refusal, by its first byte
+abbrev pub Plain : List ℕ → Type 0
+Plain l = (first_byte l ≢ 97) × (first_byte l ≢ 98) × (first_byte l ≢ 114)
 
--- it is none of a crossing reach
-not_across : (l : List ℕ) → SaysFinished l → IsAcross l → ⊥
-not_across l finished is = omega (arith, finished_byte l finished, across_byte l is)
-
--- what is left of the lines before once those of the first call are taken away
-taken : (bs : Lines) (l : List ℕ) (rest across later : Lines) → SaysFinished l → All IsAcross across →
+-- what is left of the lines before it once those of the first call are taken away
+taken : (bs : Lines) (l : List ℕ) (rest across later : Lines) → Plain l → All IsAcross across →
     bs ++ (l ∷ rest) ≡ across ++ later → (c : Lines) × (bs ≡ across ++ c) × (later ≡ c ++ (l ∷ rest))
-taken bs l rest across later finished each e = ⊎_elim
+taken bs l rest across later plain each e = ⊎_elim
     (λ (o : (c : Lines) × (bs ≡ across ++ c) × (c ++ (l ∷ rest) ≡ later)). (o.0, o.1, sym o.2))
     (λ (o : (c : Lines) × (across ≡ bs ++ c) × (l ∷ rest ≡ c ++ later)). short o.0 o.1 o.2)
     (overlap bs (l ∷ rest) across later e)
@@ -166,48 +107,89 @@ taken bs l rest across later finished each e = ⊎_elim
     short (y ∷ ys) is more =
         let here : IsAcross y = All-head IsAcross y ys (All-right IsAcross bs (y ∷ ys) (subst (All IsAcross) is each)) in
         let same : l ≡ y = cc in
-        absurd (not_across l finished (subst IsAcross (sym same) here))
+        absurd (plain.0 (across_byte l (subst IsAcross (sym same) here)))
 
-pub cut_at : (events : List Event) (before : Lines) (l : List ℕ) (rest ls : Lines) → SaysFinished l → TellsCalls events ls →
-    ls ≡ before ++ (l ∷ rest) → Cut events before rest
-cut_at [] before l rest ls finished tells is = ⊎_elim
+pub cut_at : (events : List Event) (before : Lines) (l : List ℕ) (rest ls : Lines) → Plain l → TellsCalls events ls →
+    ls ≡ before ++ (l ∷ rest) → Cut events before l rest
+cut_at [] before l rest ls plain tells is = ⊎_elim
     (λ (none : ls ≡ []). absurd (nothing_behind before l rest (sym is ∙ none)))
     (λ (r : OneRefusal ls). last before (sym is ∙ r.1) r.2)
     tells
   where
-    last : (xs : Lines) → {r : List ℕ} → xs ++ (l ∷ rest) ≡ r ∷ [] → is_refusal r ≡ true → Cut [] before rest
-    last [] {r} e refuses =
-        let same : l ≡ r = cc in
-        absurd (let z : ⊥ = omega (arith, finished_byte l finished, ap first_byte same, refusal_byte r refuses) in z)
+    last : (xs : Lines) → {r : List ℕ} → xs ++ (l ∷ rest) ≡ r ∷ [] → is_refusal r ≡ true → Cut [] before l rest
+    last [] {r} e refuses = let same : l ≡ r = cc in absurd (plain.2 (ap first_byte same ∙ refusal_byte r refuses))
     last (x ∷ xs) {r} e refuses = let none : xs ++ (l ∷ rest) ≡ [] = cc in absurd (nothing_behind xs l rest none)
-cut_at (e ∷ es) [] l rest ls finished (now, later, are, told, more) is =
+cut_at (e ∷ es) [] l rest ls plain (now, later, are, told, more) is =
     let h = headed e now told in
     let whole : l ∷ rest ≡ h.line ∷ (h.across ++ later) = sym is ∙ are ∙ ap (λ (x : Lines). x ++ later) h.are in
     let same : l ≡ h.line = cc in
-    let alone = h.alone (λ b. let z : ⊥ = omega (arith, finished_byte l finished, ap first_byte same, b) in z) in
+    let alone = h.alone (λ b. plain.1 (ap first_byte same ∙ b)) in
     let others : rest ≡ h.across ++ later = cc in
     let left : later ≡ rest = sym (others ∙ ap (λ (x : Lines). x ++ later) alone) in
-    cut_here e es l rest finished (subst (Says e) (sym same) h.says) (subst (TellsCalls es) left more)
-cut_at (e ∷ es) (b ∷ bs) l rest ls finished (now, later, are, told, more) is =
+    record {
+      earlier = [];
+      call = e;
+      later = es;
+      are = refl;
+      says = subst (Says e) (sym same) h.says;
+      told = inl refl;
+      tells = subst (TellsCalls es) left more;
+    }
+cut_at (e ∷ es) (b ∷ bs) l rest ls plain (now, later, are, told, more) is =
     let h = headed e now told in
     let whole : b ∷ (bs ++ (l ∷ rest)) ≡ h.line ∷ (h.across ++ later) = sym is ∙ are ∙ ap (λ (x : Lines). x ++ later) h.are in
     let same : b ≡ h.line = cc in
     let others : bs ++ (l ∷ rest) ≡ h.across ++ later = cc in
-    let t = taken bs l rest h.across later finished h.each others in
-    let c = cut_at es t.0 l rest later finished more t.2 in
+    let t = taken bs l rest h.across later plain h.each others in
+    let c = cut_at es t.0 l rest later plain more t.2 in
+    let front : b ∷ bs ≡ h.line ∷ (h.across ++ t.0) = cc (t.1) in
     record {
       earlier = e ∷ c.earlier;
-      budget = c.budget;
-      routes = c.routes;
-      answer = c.answer;
+      call = c.call;
       later = c.later;
       are = ap (λ (x : List Event). e ∷ x) c.are;
-      finished = c.finished;
-      limits = λ g at a history.
-          let end = limits_set c.earlier (limit_set e g) in
-          let told' = c.limits (limit_set e g) (after_call e at) (alike_limit e g at a) history.1 in
-          let behind = across_no_limit h.across t.0 (limit_set e g) end h.each told' in
-          limit_told e b bs g at end (subst (Says e) (sym same) h.says) a history.0
-          (subst (λ (x : Lines). Relimited x (limit_set e g) end) (sym t.1) behind);
+      says = c.says;
+      told = (now, t.0, front ∙ ap (λ (x : Lines). x ++ t.0) (sym h.are), told, c.told);
       tells = c.tells;
     }
+
+-- ---- the account of a report
+
+-- the call that one of the lines behind the first tells, and what is known of the network on which it happened
+pub record Moment (start : Net) (before : Lines) (l : List ℕ) (rest : Lines) : Type 0 where
+  pub commissioned : CommissionedDry start
+  pub earlier : List Event
+  pub call : Event
+  pub later : List Event
+  pub says : Says call l
+  pub told : TellsCalls earlier before
+  pub tells : TellsCalls later rest
+  pub history : IsHistory earlier start
+  pub on : IsHistory (call ∷ later) (after_calls earlier start)
+  pub promise : Promise start earlier (after_calls earlier start)
+
+pub moment : (start : Net) (commands : List Command) (ls : Lines) → AccountsFor start commands ls → (first l : List ℕ)
+    (before rest : Lines) → ls ≡ first ∷ (before ++ (l ∷ rest)) → Plain l → Moment start before l rest
+moment start commands ls accounts first l before rest are plain = ⊎_elim
+    (λ (r : OneRefusal ls).
+    let none : before ++ (l ∷ rest) ≡ [] = let e = sym are ∙ r.1 in cc in
+    absurd (nothing_behind before l rest none))
+    (λ (x : (answers : Lines) × (ls ≡ network_line start.junctions (length start.reaches) ∷ answers)
+    × Account start commands answers).
+    let behind : x.0 ≡ before ++ (l ∷ rest) = let e = sym x.1 ∙ are in cc in
+    let a = x.2 in
+    let c = cut_at a.events before l rest x.0 plain a.told behind in
+    let history = subst (λ (es : List Event). IsHistory es start) c.are a.history in
+    record {
+      commissioned = a.commissioned;
+      earlier = c.earlier;
+      call = c.call;
+      later = c.later;
+      says = c.says;
+      told = c.told;
+      tells = c.tells;
+      history = IsHistory-before c.earlier (c.call ∷ c.later) start history;
+      on = IsHistory-behind c.earlier (c.call ∷ c.later) start history;
+      promise = a.promise c.earlier (c.call ∷ c.later) c.are;
+    })
+    accounts

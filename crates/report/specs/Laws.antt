@@ -1,15 +1,10 @@
 -- A law about every report, in the words of its reader.
-use Rattle.std.specs.Prelude.{◌≡◌, ℕ, zero, suc, ◌+◌, Bool, true, false, cond, ◌⊎◌, List, [], ◌∷◌, codes, ◌==◌}
+use Rattle.std.specs.Prelude.{◌≡◌, ℕ, zero, suc, ◌+◌, Bool, true, false, ◌⊎◌, List, [], ◌∷◌, codes}
 use Rattle.std.specs.List.{All}
 use Rattle.drawing.specs.Records.{Said, shape, name, reach, table_end, chamber, source, sink, limit, settle, drain, bottleneck, tally}
 use Rattle.drawing.specs.Ahead.{Drawn, item, end, refused}
 use Rattle.desk.specs.Lines.{Lines, network_line}
-
--- whether a line begins with these bytes
-abbrev pub starts_with : List ℕ → List ℕ → Bool
-starts_with [] l = true
-starts_with (b ∷ bs) [] = false
-starts_with (b ∷ bs) (c ∷ cs) = cond (b == c) (starts_with bs cs) false
+use Rattle.desk.specs.Laws.{starts_with}
 
 abbrev pub is_network : List ℕ → Bool
 is_network l = starts_with (codes "network ") l

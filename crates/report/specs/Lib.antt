@@ -3,6 +3,7 @@ pub mod Laws
 pub mod Described
 pub mod Asking
 pub mod Accounts
-pub mod Standing
+pub mod Most
+pub mod Adding
 pub mod Setups
 pub mod Worked

@@ -10,7 +10,8 @@ ghost use Rattle.desk.specs.Lines.{refusal_line};
 ghost use Rattle.report.specs.Reported.{draft_lines, reported};
 ghost use Rattle.report.specs.Laws.{ToldOnce};
 ghost use Rattle.report.specs.Accounts.{Accounted};
-ghost use Rattle.report.specs.Standing.{StandsFirm};
+ghost use Rattle.report.specs.Most.{MostTold};
+ghost use Rattle.report.specs.Adding.{AddsUp};
 ghost use Rattle.report.specs.Setups.{Entered, table_lines};
 ghost use Rattle.desk.specs.Rest.{rest};
 
@@ -89,7 +90,8 @@ pub fn open<'a, 't, S: Search + Default + Drop>(
         ≡ elim result [ Ok d ↦ rest gathering_net gathering_giver d | Err e ↦ refusal_line e ∷ [] ] }
     ensures once { ToldOnce (drawn input.now) (reported (places_in rows.old) input.now) }
     ensures account { Accounted (drawn input.now) (reported (places_in rows.old) input.now) }
-    ensures stands { StandsFirm (drawn input.now) (reported (places_in rows.old) input.now) }
+    ensures most { MostTold (drawn input.now) (reported (places_in rows.old) input.now) }
+    ensures adds { AddsUp (reported (places_in rows.old) input.now) }
 {
     let mut reader = Reader::open(input)?;
     let mut draft = Draft::new(rows);

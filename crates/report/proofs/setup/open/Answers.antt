@@ -1,6 +1,7 @@
 use Rattle.report.proofs.Once.{told_once}
 use Rattle.report.proofs.Accounting.{accounted}
-use Rattle.report.proofs.Standing.{stands_firm}
+use Rattle.report.proofs.TellingMost.{most_told}
+use Rattle.report.proofs.TellingLitres.{adds_told}
 use Rattle.report.proofs.setup.open.Goals as goal
 
 pub returns-in_err-reader-clause-once : goal.returns-in_err-reader-clause-once
@@ -15,14 +16,26 @@ returns-in_err-reader-clause-account g c = accounted _ _
 pub returns-clause-account : goal.returns-clause-account
 returns-clause-account g c = accounted _ _
 
-pub returns-in_err-reader-clause-stands : goal.returns-in_err-reader-clause-stands
-returns-in_err-reader-clause-stands g c = stands_firm c.args.rows.now c.args.input.now
+pub returns-in_err-reader-clause-most : goal.returns-in_err-reader-clause-most
+returns-in_err-reader-clause-most g c = most_told c.args.rows.now c.args.input.now
 
-pub returns-clause-stands : goal.returns-clause-stands
-returns-clause-stands g c = stands_firm c.args.rows.now c.args.input.now
+pub returns-clause-most : goal.returns-clause-most
+returns-clause-most g c = most_told c.args.rows.now c.args.input.now
 
-pub returns-in_err-enter_chambers-clause-stands : goal.returns-in_err-enter_chambers-clause-stands
-returns-in_err-enter_chambers-clause-stands g c = stands_firm _ _
+pub returns-in_err-enter_chambers-clause-most : goal.returns-in_err-enter_chambers-clause-most
+returns-in_err-enter_chambers-clause-most g c = most_told _ _
 
-pub returns-in_err-enter_feeders-clause-stands : goal.returns-in_err-enter_feeders-clause-stands
-returns-in_err-enter_feeders-clause-stands g c = stands_firm _ _
+pub returns-in_err-enter_feeders-clause-most : goal.returns-in_err-enter_feeders-clause-most
+returns-in_err-enter_feeders-clause-most g c = most_told _ _
+
+pub returns-in_err-reader-clause-adds : goal.returns-in_err-reader-clause-adds
+returns-in_err-reader-clause-adds g c = adds_told c.args.rows.now c.args.input.now
+
+pub returns-clause-adds : goal.returns-clause-adds
+returns-clause-adds g c = adds_told c.args.rows.now c.args.input.now
+
+pub returns-in_err-enter_chambers-clause-adds : goal.returns-in_err-enter_chambers-clause-adds
+returns-in_err-enter_chambers-clause-adds g c = adds_told _ _
+
+pub returns-in_err-enter_feeders-clause-adds : goal.returns-in_err-enter_feeders-clause-adds
+returns-in_err-enter_feeders-clause-adds g c = adds_told _ _

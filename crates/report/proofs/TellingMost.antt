@@ -1,6 +1,6 @@
 -- Behind a settling that finished, tallies and bottlenecks tell the most that can be delivered.
-use Rattle.std.proofs.Common.{◌≡◌, ℕ, ◌≢◌, List, [], ◌∷◌, ◌++◌, length, pos, refl, sym, ap, ◌∙◌, subst, ⊎_elim, true, arith}
-use Rattle.std.specs.Prelude.{ℤ, ◌≤ℤ◌}
+use Rattle.std.proofs.Common.{◌≡◌, ℕ, ◌≢◌, List, [], ◌∷◌, ◌++◌, pos, refl, sym, ap, ◌∙◌, subst, ⊎_elim, true, arith}
+use Rattle.std.specs.Prelude.{ℤ, ◌≤ℤ◌, IsTrue}
 use Rattle.std.specs.List.{All}
 use Rattle.std.proofs.lemmas.Bool.{both_ways, false≢true}
 use Rattle.std.proofs.lemmas.Int.{ints}
@@ -13,27 +13,26 @@ use Rattle.flow.specs.Pushes.{pushed_all, EachPushed, litres_of}
 use Rattle.flow.specs.RouteLaws.{IsRaised}
 use Rattle.flow.specs.Cuts.{cut_sum, IsBest}
 use Rattle.flow.specs.Bottlenecks.{near_of}
-use Rattle.flow.specs.Histories.{Event, settling, limit_change, draining, tally, bottleneck, reading, refusal, after_call, after_calls, marked, Happens, IsHistory}
+use Rattle.flow.specs.Histories.{Outcome, Event, settling, limit_change, draining, tally, bottleneck, reading, refusal, after_call, after_calls, marked, Happens, IsHistory}
 use Rattle.flow.proofs.Besting.{best_cut}
-use Rattle.flow.proofs.Lasting.{Lasting, lasting, IsHistory-before, IsHistory-behind}
+use Rattle.flow.proofs.Lasting.{Lasting, lasting}
 use Rattle.flow.proofs.Likeness.{Shaped-alike}
 use Rattle.flow.proofs.Machining.{shortest_from_first, raised_all}
 use Rattle.flow.proofs.Marking.{near_of-is}
 use Rattle.network.specs.declared.row.Row.{Row}
 use Rattle.table.specs.Laid.{places_in}
 use Rattle.drawing.specs.Ahead.{drawn}
-use Rattle.desk.specs.declared.command.Command.{Command}
-use Rattle.desk.specs.Lines.{Lines, tally_line, bottleneck_line, network_line}
+use Rattle.desk.specs.Lines.{Lines, tally_line, bottleneck_line}
 use Rattle.report.specs.Laws.{is_refusal}
-use Rattle.report.specs.Accounts.{OneRefusal, TellsCalls, Account, AccountsFor}
+use Rattle.report.specs.Accounts.{OneRefusal, TellsCalls}
 use Rattle.report.specs.Asking.{commands_of}
 use Rattle.report.specs.Described.{described}
 use Rattle.report.specs.Reported.{reported}
 use Rattle.report.proofs.Accounting.{accounted}
-use Rattle.report.specs.Standing.{SaysFinished, is_limit, is_drained, is_tally, is_bottleneck, Undisturbed, Relimited, Agrees, Stands, StandsFirm}
-use Rattle.report.proofs.Limits.{limits_set, alike_limits, relimited_once}
-use Rattle.report.proofs.Bytes.{first_byte, across_byte, refusal_byte, no_tally_byte, no_bottleneck_byte}
-use Rattle.report.proofs.Splitting.{overlap, All-left, All-right, nothing_behind, IsAcross, Says, headed, Cut, cut_at}
+use Rattle.report.specs.Most.{SaysFinished, is_limit, is_drained, is_tally, is_bottleneck, Undisturbed, Relimited, Agrees, TellsMost, MostTold}
+use Rattle.report.proofs.Limits.{limits_set, alike_limits, limits_told, relimited_once}
+use Rattle.report.proofs.Bytes.{first_byte, across_byte, refusal_byte, finished_byte, no_tally_byte, no_bottleneck_byte, finished_from_yes}
+use Rattle.report.proofs.Splitting.{overlap, All-left, All-right, nothing_behind, IsAcross, Says, headed, Plain, Moment, moment}
 
 -- ---- lines that agree with an amount
 
@@ -126,61 +125,79 @@ module _ (amount : ℕ) (g : Net) (shaped : Shaped g) (flow : IsFlow g) (finishe
       All-left (Agrees amount) bs o.0 (subst (All (Agrees amount)) o.1 crossing))
       (overlap bs later h.across others cc))
 
+-- ---- a settling that finished
+
+pub record IsFinishing (e : Event) : Type 0 where
+  pub budget : ℕ
+  pub routes : List (List ℕ)
+  pub answer : Outcome
+  pub is : e ≡ settling budget routes answer
+  pub finished : IsTrue answer.finished
+
+-- its line is that of no other call
+finishing : (e : Event) (l : List ℕ) → SaysFinished l → Says e l → IsFinishing e
+finishing (settling budget routes answer) l finished says = record {
+  budget = budget;
+  routes = routes;
+  answer = answer;
+  is = refl;
+  finished = finished_from_yes answer.routes answer.litres answer.finished (subst SaysFinished says finished);
+}
+finishing (limit_change k q) l finished says =
+    absurd (let z : ⊥ = omega (arith, finished_byte l finished, ap first_byte says) in z)
+finishing draining l finished says = absurd (let z : ⊥ = omega (arith, finished_byte l finished, ap first_byte says) in z)
+finishing (tally answer) l finished says =
+    absurd (let z : ⊥ = omega (arith, finished_byte l finished, ap first_byte says) in z)
+finishing (bottleneck marks sum crossing) l finished says =
+    absurd (let z : ⊥ = omega (arith, finished_byte l finished, ap first_byte says) in z)
+finishing refusal l finished says =
+    absurd (let z : ⊥ = omega (arith, finished_byte l finished, refusal_byte l says) in z)
+finishing reading l finished says = absurd says
+
 -- ---- all together
 
-account_stands : (start : Net) (commands : List Command) (answers before : Lines) (l : List ℕ) (between later : Lines) →
-    Account start commands answers → answers ≡ before ++ (l ∷ (between ++ later)) → SaysFinished l → All Undisturbed between →
-    Stands start before between
-account_stands start commands answers before l between later a are says calm = record {
-  scheme = limits_set cut.earlier start;
+moment_tells_most : (start : Net) (before : Lines) (l : List ℕ) (between later : Lines) →
+    Moment start before l (between ++ later) → SaysFinished l → All Undisturbed between → TellsMost start before between
+moment_tells_most start before l between later x says calm = record {
+  scheme = limits_set x.earlier start;
   limits = limits;
-  only = λ other told. relimited_once before start other (limits_set cut.earlier start) a.commissioned.shaped.listed told
-      limits;
+  only = λ other told. relimited_once before start other (limits_set x.earlier start) x.commissioned.shaped.listed told limits;
   amount = amount;
   most = record {
     most = λ h alike flow. subst (λ (d : ℤ). delivered h ≤ℤ d) best.tight (best.most h (sym same ∙ alike) flow);
     attained = (end, same, raised.flow, best.tight);
   };
-  agree = all_agree amount end shaped raised.flow finished best.tight cut.later between later (between ++ later) cut.tells refl
-      on.1 calm;
+  agree = all_agree amount end shaped raised.flow finished best.tight x.later between later (between ++ later) x.tells refl
+      (on.1) calm;
 }
   where
-    cut : Cut a.events before (between ++ later)
-    cut = cut_at a.events before l (between ++ later) answers says a.told are
+    limits : Relimited before start (limits_set x.earlier start)
+    limits = limits_told x.earlier before start start x.told refl x.history
 
-    call : Event
-    call = settling cut.budget cut.routes cut.answer
-
-    history : IsHistory (cut.earlier ++ call ∷ cut.later) start
-    history = subst (λ (es : List Event). IsHistory es start) cut.are a.history
-
-    earlier : IsHistory cut.earlier start
-    earlier = IsHistory-before cut.earlier (call ∷ cut.later) start history
-
-    limits : Relimited before start (limits_set cut.earlier start)
-    limits = cut.limits start start refl earlier
+    call : IsFinishing x.call
+    call = finishing x.call l says x.says
 
     -- the network before the settling, and the one behind it
     at : Net
-    at = after_calls cut.earlier start
+    at = after_calls x.earlier start
 
     end : Net
-    end = pushed_all cut.routes at
+    end = pushed_all call.routes at
 
     there : Lasting start at
-    there = lasting cut.earlier start a.commissioned earlier
+    there = lasting x.earlier start x.commissioned x.history
 
-    on : IsHistory (call ∷ cut.later) at
-    on = IsHistory-behind cut.earlier (call ∷ cut.later) start history
+    on : IsHistory (settling call.budget call.routes call.answer ∷ x.later) at
+    on = subst (λ (e : Event). IsHistory (e ∷ x.later) at) call.is x.on
 
-    raised : IsRaised at end (litres_of at cut.routes)
-    raised = raised_all at cut.routes there.shaped there.flow (shortest_from_first at cut.routes on.0.settles.firsts)
+    raised : IsRaised at end (litres_of at call.routes)
+    raised = raised_all at call.routes there.shaped there.flow (shortest_from_first at call.routes on.0.settles.firsts)
 
     shaped : Shaped end
     shaped = Shaped-alike at end raised.alike there.shaped
 
     finished : Finished end
-    finished = on.0.tells.0 cut.finished
+    finished = on.0.tells.0 call.finished
 
     amount : ℕ
     amount = cut_sum (near_of end) end.reaches
@@ -189,25 +206,14 @@ account_stands start commands answers before l between later a are says calm = r
     best = best_cut end (near_of end) shaped raised.flow finished (near_of-is end shaped)
 
     -- it has the limits that were set
-    same : Alike (limits_set cut.earlier start) end
-    same = alike_limits cut.earlier start start refl ∙ raised.alike
+    same : Alike (limits_set x.earlier start) end
+    same = alike_limits x.earlier start start refl ∙ raised.alike
 
--- a report that accounts for a network stands
-lines_stand : (start : Net) (commands : List Command) (ls : Lines) → AccountsFor start commands ls → (first l : List ℕ)
-    (before between later : Lines) → ls ≡ first ∷ (before ++ (l ∷ (between ++ later))) → SaysFinished l →
-    All Undisturbed between → Stands start before between
-lines_stand start commands ls accounts first l before between later are says calm = ⊎_elim
-    (λ (r : OneRefusal ls).
-    let none : before ++ (l ∷ (between ++ later)) ≡ [] = let e = sym are ∙ r.1 in cc in
-    absurd (nothing_behind before l (between ++ later) none))
-    (λ (x : (answers : Lines) × (ls ≡ network_line start.junctions (length start.reaches) ∷ answers)
-    × Account start commands answers).
-    let behind : x.0 ≡ before ++ (l ∷ (between ++ later)) = let e = sym x.1 ∙ are in cc in
-    account_stands start commands x.0 before l between later x.2 behind says calm)
-    accounts
-
-pub stands_firm : (rows : List Row) (input : List ℕ) → StandsFirm (drawn input) (reported (places_in rows) input)
-stands_firm rows input first l before between later are says calm =
+pub most_told : (rows : List Row) (input : List ℕ) → MostTold (drawn input) (reported (places_in rows) input)
+most_told rows input first l before between later are says calm =
     let d = drawn input in
-    lines_stand (described d) (commands_of d) (reported (places_in rows) input) (accounted rows input) first l before between
-    later are says calm
+    let b = finished_byte l says in
+    let plain : Plain l = (λ e. omega (arith, b, e), λ e. omega (arith, b, e), λ e. omega (arith, b, e)) in
+    let x = moment (described d) (commands_of d) (reported (places_in rows) input) (accounted rows input) first l before
+    (between ++ later) are plain in
+    moment_tells_most (described d) before l between later x says calm

@@ -7,7 +7,7 @@ use Rattle.flow.specs.Flows.{delivered, IsFlow}
 use Rattle.flow.specs.Changes.{relimited, Alike}
 use Rattle.drawing.specs.Ahead.{Drawn}
 use Rattle.desk.specs.Lines.{Lines, limit_line, tally_line, bottleneck_line}
-use Rattle.report.specs.Laws.{starts_with}
+use Rattle.desk.specs.Laws.{starts_with}
 use Rattle.report.specs.Described.{described}
 
 -- a line that tells of a settling after which no route is left: it begins with "settled " and ends with "yes"
@@ -50,7 +50,7 @@ Agrees amount l =
     (is_tally l ≡ true → l ≡ tally_line (pos amount)) × (is_bottleneck l ≡ true → l ≡ bottleneck_line amount)
 
 -- lines before a settling that finished, and lines between it and the next limit or draining, over a drawing's network
-pub record Stands (start : Net) (before between : Lines) : Type 0 where
+pub record TellsMost (start : Net) (before between : Lines) : Type 0 where
   -- the network with the limits that were set before; the lines tell of one only
   pub scheme : Net
   pub limits : Relimited before start scheme
@@ -62,7 +62,7 @@ pub record Stands (start : Net) (before between : Lines) : Type 0 where
   pub agree : All (Agrees amount) between
 
 -- wherever the lines of a drawing tell of a settling that finished, with lines behind it that tell of no limit set and of no
--- draining, it stands
-abbrev pub StandsFirm : Drawn → Lines → Type 0
-StandsFirm d ls = (first l : List ℕ) (before between later : Lines) → ls ≡ first ∷ (before ++ (l ∷ (between ++ later))) →
-    SaysFinished l → All Undisturbed between → Stands (described d) before between
+-- draining, these tell the most
+abbrev pub MostTold : Drawn → Lines → Type 0
+MostTold d ls = (first l : List ℕ) (before between later : Lines) → ls ≡ first ∷ (before ++ (l ∷ (between ++ later))) →
+    SaysFinished l → All Undisturbed between → TellsMost (described d) before between
