@@ -109,6 +109,12 @@ taken bs l rest across later plain each e = ⊎_elim
         let same : l ≡ y = cc in
         absurd (plain.0 (across_byte l (subst IsAcross (sym same) here)))
 
+in_front : (b : List ℕ) (bs now c : Lines) (line : List ℕ) (across : Lines) → b ≡ line → bs ≡ across ++ c →
+    now ≡ line ∷ across → b ∷ bs ≡ now ++ c
+in_front b bs now c line across same is are =
+    let all : b ∷ bs ≡ line ∷ (across ++ c) = cc in
+    all ∙ ap (λ (x : Lines). x ++ c) (sym are)
+
 pub cut_at : (events : List Event) (before : Lines) (l : List ℕ) (rest ls : Lines) → Plain l → TellsCalls events ls →
     ls ≡ before ++ (l ∷ rest) → Cut events before l rest
 cut_at [] before l rest ls plain tells is = ⊎_elim
@@ -142,14 +148,13 @@ cut_at (e ∷ es) (b ∷ bs) l rest ls plain (now, later, are, told, more) is =
     let others : bs ++ (l ∷ rest) ≡ h.across ++ later = cc in
     let t = taken bs l rest h.across later plain h.each others in
     let c = cut_at es t.0 l rest later plain more t.2 in
-    let front : b ∷ bs ≡ h.line ∷ (h.across ++ t.0) = cc (t.1) in
     record {
       earlier = e ∷ c.earlier;
       call = c.call;
       later = c.later;
-      are = ap (λ (x : List Event). e ∷ x) c.are;
+      are = ap (λ (x : List Event). e ∷ x) {y = c.earlier ++ c.call ∷ c.later} c.are;
       says = c.says;
-      told = (now, t.0, front ∙ ap (λ (x : Lines). x ++ t.0) (sym h.are), told, c.told);
+      told = (now, t.0, in_front b bs now t.0 h.line h.across same t.1 h.are, told, c.told);
       tells = c.tells;
     }
 
@@ -179,7 +184,7 @@ moment start commands ls accounts first l before rest are plain = ⊎_elim
     let behind : x.0 ≡ before ++ (l ∷ rest) = let e = sym x.1 ∙ are in cc in
     let a = x.2 in
     let c = cut_at a.events before l rest x.0 plain a.told behind in
-    let history = subst (λ (es : List Event). IsHistory es start) c.are a.history in
+    let history = subst (λ (es : List Event). IsHistory es start) {y = c.earlier ++ c.call ∷ c.later} c.are a.history in
     record {
       commissioned = a.commissioned;
       earlier = c.earlier;

@@ -29,7 +29,7 @@ use Rattle.report.proofs.Accounting.{accounted}
 use Rattle.report.proofs.Bytes.{first_byte, across_byte, refusal_byte, tally_byte, no_settled_byte, no_drained_byte, one_settled}
 use Rattle.report.proofs.Splitting.{IsAcross, Says, headed, Plain, moment}
 
--- ---- lines lead to one amount only
+-- ---- behind lines there is one amount only
 
 told_to_one : (ls : Lines) (a x y : ℕ) → LitresTold ls a x → LitresTold ls a y → x ≡ y
 told_to_one [] a x y r s = sym r ∙ s
@@ -49,7 +49,7 @@ told_to_one (l ∷ ls) a x y (inr (inr r)) (inl (d, (n, f, n-fits, d-fits, is), 
 told_to_one (l ∷ ls) a x y (inr (inr r)) (inr (inl s)) = absurd (both_ways (is_drained l) r.1 s.0)
 told_to_one (l ∷ ls) a x y (inr (inr r)) (inr (inr s)) = told_to_one ls a x y r.2 s.2
 
--- ---- the lines of calls lead where the calls lead
+-- ---- the lines of calls tell what the calls count
 
 -- what a settling answers are numbers of at most 64 bits
 settled_fits : (g : Net) (a budget : ℕ) (routes : List (List ℕ)) (answer : Outcome) → Shaped g → IsFlow g → delivered g ≡ pos a →

@@ -12,8 +12,8 @@ abbrev pub SaysAdded : ℕ → List ℕ → Type 0
 SaysAdded litres l =
     (routes : ℕ) × (finished : Bool) × (routes < 2 ^ 64) × (litres < 2 ^ 64) × (l ≡ settled_line routes litres finished)
 
--- the lines lead from a litres to b: that of a settling adds its litres, that of a draining leaves none, and any other
--- changes nothing
+-- with a litres in front of the lines there are b behind them: the line of a settling adds its litres, behind that of a
+-- draining there are 0, and any other changes nothing
 abbrev pub LitresTold : Lines → ℕ → ℕ → Type 0
 LitresTold [] a b = a ≡ b
 LitresTold (l ∷ ls) a b =
@@ -23,11 +23,11 @@ LitresTold (l ∷ ls) a b =
 
 -- the line of a tally, and the lines between the first of a report and it
 pub record TellsAdded (before : Lines) (l : List ℕ) : Type 0 where
-  -- these lead from none to one amount only
+  -- behind these, with 0 in front of them, there is this amount of litres and no other
   pub amount : ℕ
   pub litres : LitresTold before 0 amount
   pub only : (other : ℕ) → LitresTold before 0 other → other ≡ amount
-  -- which is what the tally tells
+  -- and the tally tells it
   pub tells : l ≡ tally_line (pos amount)
 
 -- every tally tells the litres of the settlings that lines before it tell since the last draining, all together; and so no
