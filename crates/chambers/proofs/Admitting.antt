@@ -177,7 +177,8 @@ module _ {N : Type 0} {R : Ghosts N} (x : Chambers N R) (v q : ℕ)
 
   -- a reach of the network below leaves v's twin in place of v, and a chamber's reach leaves what it left
   below_again : All (λ r. leaving_from (left_from more) r ≡ leaving_from (instead v twin) (leaving_from (left_from own) r)) g.reaches
-  below_again = All-weaker (FairArc n) (λ r. leaving_from (left_from more) r ≡ leaving_from (instead v twin) (leaving_from (left_from own) r))
+  below_again = All-weaker (FairArc n)
+      (λ r. leaving_from (left_from more) r ≡ leaving_from (instead v twin) (leaving_from (left_from own) r))
       (λ r fair. ap (λ (t : ℕ). leaving_from (λ _. t) r) (left_more r.tail fair.0.0)) g.reaches (fair_all g s)
 
   own_still : All (λ r. leaving_from (instead v twin) r ≡ r) own

@@ -116,7 +116,8 @@ module _ {N : Type 0} {R : Ghosts N} (x : Chambers N R) (v k : ℕ) (r : Option 
         (λ (from : left_from own (arc_at rs i).tail ≡ v).
         ⊎_elim
         (λ (c : Without own (arc_at rs i).tail).
-        absurd (let z : ⊥ = omega (arith, ap (λ (o : Option ℕ). or_self o (arc_at rs i).tail) c.0, from, (fair_at g s i less).0.0, place) in z))
+        let tail = ap (λ (o : Option ℕ). or_self o (arc_at rs i).tail) c.0 in
+        absurd (let z : ⊥ = omega (arith, tail, from, (fair_at g s i less).0.0, place) in z))
         (λ (c : With own (arc_at rs i).tail).
         let head = ap (λ (o : Option ℕ). or_self o (arc_at rs i).tail) c.3 in
         let same : c.0 ≡ e = omega (arith, head, from, (x.fit.each c.0 c.1).1, place) in

@@ -38,7 +38,8 @@ module _ (rs : List Arc) (label : ℕ → ℕ) (v c next x : ℕ) (o : OpensAt B
   )
 
 pub least_all : (g : Net) (label : ℕ → ℕ) (v c : ℕ) → ((u : ℕ) → OpensAt Begin g.reaches v u → GoesFirst u c) →
-    (least : Option ℕ) (y : ℕ) → MatchOption least (y ≡ g.junctions) (λ l. y ≡ l + 1) → LeastPassed g.reaches label v c least → IsRelabel g label v y
+    (least : Option ℕ) (y : ℕ) → MatchOption least (y ≡ g.junctions) (λ l. y ≡ l + 1) →
+    LeastPassed g.reaches label v c least → IsRelabel g label v y
 least_all g label v c none None y is h =
     inr (record { none = λ s o. all_passed Begin g.reaches v (λ u. ⊥) c none h s o; count = is })
 least_all g label v c none (Some l) y is h =

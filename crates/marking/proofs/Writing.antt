@@ -19,7 +19,8 @@ bit_back x false low e = grind (arith, nat_tests)
 pub first_marks : (g : Net) (xs : List ℕ) → Shaped g → ((v : ℕ) → get_or xs v 0 ≤ 1) → IsBottleneck g (marked xs) →
     g.junctions ≤ length xs → take g.junctions xs ≡ marks_of (near_of g) g.junctions
 first_marks g xs shaped bits is enough =
-    ext_get_or 0 (take g.junctions xs) (marks_of (near_of g) g.junctions) (omega (arith, front, marks_of-length (near_of g) g.junctions)) each
+    ext_get_or 0 (take g.junctions xs) (marks_of (near_of g) g.junctions)
+    (omega (arith, front, marks_of-length (near_of g) g.junctions)) each
   where
     front : length (take g.junctions xs) ≡ g.junctions
     front = omega (arith, length-take g.junctions xs)

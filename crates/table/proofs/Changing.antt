@@ -39,4 +39,9 @@ written_in_front c rows used giver k (Ok _) after done written =
     let low = accepted_low c (arcs_of rows used) giver k done.0 in
     let less : k < used = omega (arith, low, arcs_length rows used) in
     let here : k < length (take used rows) = omega (arith, low, count_in (take used rows)) in
-    rw (written, ← set-append_left (take used rows) (drop used rows) k _ here, take-append-drop used rows, get_or-take used rows k no_row less)
+    rw (
+      written,
+      ← set-append_left (take used rows) (drop used rows) k _ here,
+      take-append-drop used rows,
+      get_or-take used rows k no_row less,
+    )

@@ -13,5 +13,6 @@ returns c =
     let k = c.args.k in
     let first = first_in P rows k c.position.result
     (IsFirst-from_position _ _ _ (λ row. P (arc_of_row row)) (λ row. P (arc_of_row row) → ⊥) c.position.ensures.ran
-    (YieldsList-from_skip k (YieldsList-from_slice rows (search rules)) c.skip.ensures.count) (λ x q e. search (rules, tests)) (λ x q e. search (rules, tests))) in
+    (YieldsList-from_skip k (YieldsList-from_slice rows (search rules)) c.skip.ensures.count)
+    (λ x q e. search (rules, tests)) (λ x q e. search (rules, tests))) in
     subst (FirstFrom P (arcs_in rows) k) (search rules) first

@@ -5,8 +5,8 @@ use Rattle.performing.proofs.performing.perform.Goals as goal
 
 pub returns-in-Settle-clause-promise : goal.returns-in-Settle-clause-promise
 returns-in-Settle-clause-promise g c =
-    promised _ _ (g.N.Network.giver c.args.net.now) c.args.call c.args.marks.now c.args.marks.now (Ok (answer.Settled c.settle-search.result.1))
-    (g.N.Network.sound c.args.net.now).shaped (search rules)
+    promised _ _ (g.N.Network.giver c.args.net.now) c.args.call c.args.marks.now c.args.marks.now
+    (Ok (answer.Settled c.settle-search.result.1)) (g.N.Network.sound c.args.net.now).shaped (search rules)
 
 pub returns-in-Limit-clause-promise : goal.returns-in-Limit-clause-promise
 returns-in-Limit-clause-promise g c =
