@@ -12,6 +12,7 @@ ghost use Rattle.chambers.specs.Standing.{chambers_net, chambers_giver};
 ghost use Rattle.gathering.specs.Entering.{no_feeders};
 ghost use Rattle.gathering.specs.Standing.{feeders_of, gathering_net, gathering_giver};
 ghost use Rattle.entries.specs.Entered.{chamber_lines, feeder_lines};
+ghost use Rattle.entries.specs.Leaving.{chambers_entered, feeders_entered};
 
 use chambers::Chambers;
 use drawing::{Reader, Record};
@@ -30,6 +31,8 @@ pub fn enter_chambers<N: Network>(
         (N.giver layer.old.extended.below) (own_arcs layer.old.extended.own)
         ≡ going_on result (feeder_lines names (ahead reader.new) (chambers_net layer.new) (chambers_giver layer.new)
         no_feeders) }
+    ensures left { (ahead reader.new, own_arcs layer.new.extended.own)
+        ≡ chambers_entered (ahead reader.old) (N.meaning layer.old.extended.below) (own_arcs layer.old.extended.own) }
 {
     'reading: loop {
         let place = reader.place();
@@ -54,6 +57,8 @@ pub fn enter_feeders<N: Network>(
         (N.giver layer.old.extended.below) (feeders_of layer.old)
         ≡ going_on result (opened_lines names (asked (ahead reader.new)) (gathering_giver layer.new)
         (gathering_net layer.new)) }
+    ensures left { (ahead reader.new, feeders_of layer.new)
+        ≡ feeders_entered (ahead reader.old) (N.meaning layer.old.extended.below) (feeders_of layer.old) }
 {
     'reading: loop {
         let place = reader.place();

@@ -4,7 +4,7 @@ use Rattle.drawing.specs.Records.{chamber}
 use Rattle.drawing.specs.Ahead.{ahead, item}
 use Rattle.layer.specs.Keeping.{own_arcs}
 use Rattle.chambers.specs.Entering.{chamber_checks, chamber_reach}
-use Rattle.entries.proofs.Onward.{chamber_more}
+use Rattle.entries.proofs.Onward.{chamber_more, chamber_left}
 use Rattle.entries.proofs.reading.enter_chambers.Goals as goal
 
 pub reading-preserved : goal.reading-preserved
@@ -23,4 +23,7 @@ reading-preserved g c =
       λ names. chamber_more names (ahead c.reading.reader) (ahead c.next.new.self) place j q net (g.N.Network.giver first) own
           (own_arcs c.enter.new.self.extended.own) told free more
           ∙ c.reading.invariant.1 names,
+      chamber_left (ahead c.reading.reader) (ahead c.next.new.self) place j q net own (own_arcs c.enter.new.self.extended.own)
+          told free more
+          ∙ c.reading.invariant.2,
     )
