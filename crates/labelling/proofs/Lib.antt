@@ -3,5 +3,6 @@ pub mod Sets
 pub mod Raising
 pub mod Spreading
 pub mod Fitting
+pub mod Closing
 pub mod Walking
 pub mod Stands

@@ -16,12 +16,23 @@ use Rattle.labelling.specs.Scanning.{AdmissibleAt, IsRelabel}
 use Rattle.labelling.specs.Moving.{Advanced, Raised, Relabelled}
 use Rattle.labelling.specs.Standing.{Fits}
 use Rattle.labelling.specs.Following.{OnlyAdvanced}
+use Rattle.labelling.specs.Gaps.{GapClosed}
 use Rattle.labelling.proofs.Fitting.{fits_advanced, raises, fits_raised, fits_pushed}
-use Rattle.labelling.proofs.Walking.{Walking, walking_none, walking_admissible, walking_length, walking_first, walking_on, walking_back, walking_in, last_opens}
+use Rattle.labelling.proofs.Closing.{fits_closed, closed_none}
+use Rattle.labelling.proofs.Walking.{Walking, walk_long, walking_none, walking_admissible, walking_length, walking_first, walking_on, walking_back, walking_in, last_opens}
 
 pub record Stands (g : Net) (x : Labelling) (ss : List ℕ) (v : ℕ) : Type 0 where
   pub fits : Fits g (label_of x) (current_of x)
   pub walking : Walking g (label_of x) ss v
+
+-- the same while the intake's label is below n; from n on it says that no route exists, and the search ends
+pub record StandsOrEnds (g : Net) (x : Labelling) (ss : List ℕ) (v : ℕ) : Type 0 where
+  pub fits : Fits g (label_of x) (current_of x)
+  pub walking : label_of x g.intake < g.junctions → Walking g (label_of x) ss v
+
+pub stands_yet : (g : Net) (x : Labelling) (ss : List ℕ) (v : ℕ) → StandsOrEnds g x ss v → label_of x g.intake < g.junctions →
+    Stands g x ss v
+stands_yet g x ss v h below = record { fits = h.fits; walking = h.walking below }
 
 -- the labels may be told by equal functions, and so the current steps
 pub fits_told : (g : Net) (label l current c : ℕ → ℕ) → l ≡ label → c ≡ current → Fits g label current → Fits g l c
@@ -119,15 +130,37 @@ module _ (g : Net) (shaped : Shaped g) (x : Labelling) (ss : List ℕ) (v : ℕ)
                 n.labels n.again then,
           )
 
+      -- the intake's label is then above the one that the junction had
+      intake_above : (c : ℕ) → label_of x v < c → label_of z ≡ relabelled v c (label_of x) → label_of x v < label_of z g.intake
+      intake_above c up is = ⊎_elim
+          (λ (same : g.intake ≡ v). omega (arith, ap (λ (f : ℕ → ℕ). f g.intake) is, relabelled_here (label_of x) v c g.intake same, up))
+          (λ (other : g.intake ≢ v).
+          let there = ap (λ (f : ℕ → ℕ). f g.intake) is ∙ relabelled_there (label_of x) v c g.intake other in
+          omega (
+            arith,
+            there,
+            walking_length g (label_of x) ss v h.walking,
+            walk_long g.reaches g.intake ss v other h.walking.walk,
+          )) (cases_eq g.intake v)
+
+      -- where the intake's label is below n, no gap was closed
+      closed_still : (w : Labelling) (c : ℕ) → label_of x v < c → label_of z ≡ relabelled v c (label_of x) →
+          GapClosed g.junctions (label_of y v) z w → label_of w g.intake < g.junctions → label_of w ≡ label_of z
+      closed_still w c up is closed less =
+          closed_none g shaped (label_of y v) z w closed g.intake
+          (omega (arith, intake_above c up is, ap (λ (l : Labelling). label_of l v) none.1)) less
+
       -- the walk retreats by its last step, where it has one
-      pub stands_back : (last u : ℕ) (after : List ℕ) → Raised g y v z → Popped ss (Some last) after →
-          BeginTold g.reaches last (Some u) → Stands g z after u
-      stands_back last u after r was begin =
+      pub stands_back : (w : Labelling) (last u : ℕ) (after : List ℕ) → Raised g y v z → GapClosed g.junctions (label_of y v) z w →
+          Popped ss (Some last) after → BeginTold g.reaches last (Some u) → StandsOrEnds g w after u
+      stands_back w last u after r closed was begin =
           let (c, up, is, fits) = fits_then r in
           let walk = subst (λ ts. Walking g (label_of x) ts v) was h.walking in
           record {
-            fits = fits;
-            walking = rw (is, begin) (walking_back g (label_of x) after last v c h.fits.labels up walk);
+            fits = fits_closed g shaped (label_of y v) z w closed fits;
+            walking = λ less.
+                let same = closed_still w c up is closed less in
+                rw (same, is, begin) (walking_back g (label_of x) after last v c h.fits.labels up walk);
           }
 
       pub stands_last : (last : ℕ) (after : List ℕ) → Popped ss (Some last) after → ¬ BeginTold g.reaches last None
@@ -136,8 +169,12 @@ module _ (g : Net) (shaped : Shaped g) (x : Labelling) (ss : List ℕ) (v : ℕ)
           let opens = last_opens g (label_of x) after last v walk in
           omega (arith, open_in g.reaches last opens, past)
 
-      pub stands_still : (after : List ℕ) → Raised g y v z → Popped ss None after → Stands g z after v
-      stands_still after r was =
+      pub stands_still : (w : Labelling) (after : List ℕ) → Raised g y v z → GapClosed g.junctions (label_of y v) z w →
+          Popped ss None after → StandsOrEnds g w after v
+      stands_still w after r closed was =
           let (c, up, is, fits) = fits_then r in
           let at : g.intake ≡ v = subst (λ ts. IsWalk g.reaches g.intake ts v) was.0 h.walking.walk in
-          record { fits = fits; walking = rw (was.1, ← at) (walking_none g (label_of z)) }
+          record {
+            fits = fits_closed g shaped (label_of y v) z w closed fits;
+            walking = λ less. rw (was.1, ← at) (walking_none g (label_of w));
+          }

@@ -22,6 +22,11 @@ pub record Walking (g : Net) (label : ℕ → ℕ) (ss : List ℕ) (v : ℕ) : T
 pub walking_none : (g : Net) (label : ℕ → ℕ) → Walking g label [] g.intake
 walking_none g label = record { walk = refl; firsts = All-nil (IsFirstAdmissible label g.reaches) }
 
+-- a walk to another junction has a step
+pub walk_long : (rs : List Arc) (from : ℕ) (ss : List ℕ) (to : ℕ) → from ≢ to → IsWalk rs from ss to → 0 < length ss
+walk_long rs from [] to ne w = absurd (ne w)
+walk_long rs from (s ∷ ss) to ne w = omega arith
+
 -- the last step of a walk
 last_of : (rs : List Arc) (from : ℕ) (ss : List ℕ) (s to : ℕ) → IsWalk rs from (ss ++ s ∷ []) to →
     IsWalk rs from ss (begins rs s) × IsOpen rs s × (finishes rs s ≡ to)

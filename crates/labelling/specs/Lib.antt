@@ -4,3 +4,4 @@ pub mod Scanning
 pub mod Moving
 pub mod Standing
 pub mod Following
+pub mod Gaps

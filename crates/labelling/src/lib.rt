@@ -3,6 +3,7 @@
 
 pub mod exact;
 pub mod following;
+pub mod gaps;
 pub mod heights;
 pub mod labelling;
 pub mod moving;
