@@ -102,6 +102,16 @@ module _ (g : Net) (shaped : Shaped g) (gap : ℕ) (x y : Labelling) (told : Gap
       absurd (omega (arith, now, less)))
       (λ (no : ((u : ℕ) × (u < most_junctions) × (label_of x u ≡ gap)) × (label_of y ≡ label_of x)). no.1) told.labels
 
+  -- a label below n is what it was
+  pub closed_below : (v : ℕ) → label_of y v < g.junctions → label_of y v ≡ label_of x v
+  closed_below v less = ⊎_elim
+      (λ (yes : IsGap (label_of x) gap × (label_of y ≡ raised_above g.junctions gap (label_of x))).
+      let now = ap (λ (f : ℕ → ℕ). f v) yes.1 in
+      ⊎_elim (λ (high : gap < label_of x v). absurd (omega (arith, now, above_gap g.junctions gap (label_of x) v high, less)))
+      (λ (low : label_of x v ≤ gap). now ∙ up_to_gap g.junctions gap (label_of x) v low) (cases_lt gap (label_of x v)))
+      (λ (no : ((u : ℕ) × (u < most_junctions) × (label_of x u ≡ gap)) × (label_of y ≡ label_of x)).
+      ap (λ (f : ℕ → ℕ). f v) no.1) told.labels
+
   -- an admissible step of a junction whose label is below n still stays admissible
   pub closed_admissible : (s : ℕ) → label_of y (begins g.reaches s) < g.junctions → IsAdmissible (label_of x) g.reaches s →
       IsAdmissible (label_of y) g.reaches s

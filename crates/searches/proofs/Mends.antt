@@ -20,7 +20,9 @@ use Rattle.labelling.specs.Scanning.{AdmissibleAt}
 use Rattle.labelling.specs.Moving.{Advanced, Raised}
 use Rattle.labelling.specs.Standing.{Fits}
 use Rattle.labelling.specs.Following.{OnlyAdvanced}
+use Rattle.labelling.specs.Gaps.{GapClosed}
 use Rattle.labelling.proofs.Fitting.{fits_raised}
+use Rattle.labelling.proofs.Closing.{closed_below, closed_admissible}
 use Rattle.labelling.proofs.Stands.{fits_told}
 use Rattle.searches.specs.declared.dd2.BegunDd2.{BegunDd2}
 use Rattle.searches.specs.Waiting.{IsPending}
@@ -113,6 +115,20 @@ module _ (g : Net) (x : Labelling) (v : ℕ) (Out : ℕ → Type 0)
           leads s a now to =
               let o : OpensAt Finish g.reaches v s = record { opens = a.admissible.opens; there = to } in
               not (subst More a.there (followers s o (ap (current_of z) a.there ∙ now)))
+
+-- where a gap is closed behind it, each junction whose label is below n keeps its step
+pub steps_closed : (g : Net) (shaped : Shaped g) (gap : ℕ) (z w : Labelling) → GapClosed g.junctions gap z w →
+    (Out : ℕ → Type 0) → KeepsSteps g (label_of z) (current_of z) Out → KeepsSteps g (label_of w) (current_of w) Out
+steps_closed g shaped gap z w closed Out steps = record {
+  has = λ v low ne less not.
+      let below = closed_below g shaped gap z w closed v less in
+      let a = steps.has v low ne (omega (arith, below, less)) not in
+      subst (λ (f : ℕ → ℕ). AdmissibleAt (label_of w) g.reaches v (f v)) (sym closed.current) (record {
+        there = a.there;
+        admissible = closed_admissible g shaped gap z w closed (current_of z v) (omega (arith, ap (label_of w) a.there, less))
+            a.admissible;
+      });
+}
 
 pub mends_raised : (g : Net) (shaped : Shaped g) (x z : Labelling) (v : ℕ) → Fits g (label_of x) (current_of x) →
     v ≢ g.outfall → Raised g x v z → Fits g (label_of z) (current_of z)

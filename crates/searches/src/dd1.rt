@@ -40,9 +40,9 @@ impl Begun for BegunDd1 {
             // Advances along first admissible steps, as far as the outfall.
             'advance: while at != size.outfall {
                 let Some(step) = self.kept.advance(net, at) else {
-                    // Where there is none, relabels the junction, and retreats to where the last step begins; at the intake
-                    // there is no last step.
-                    self.kept.relabel(net, at)?;
+                    // Where there is none, lifts the junction, and retreats to where the last step begins; at the intake there
+                    // is no last step. A gap that this closes lies below the intake's label, so the search ends.
+                    self.kept.lift(net, at)?;
                     if let Some(last) = route.pop() {
                         at = begin_of(net, last)?;
                     }

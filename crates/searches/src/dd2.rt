@@ -51,7 +51,7 @@ impl BegunDd2 {
         let None = self.kept.advance(net, at) else {
             return Some(());
         };
-        self.kept.relabel(net, at)?;
+        self.kept.lift(net, at)?;
         self.add_followers(net, at);
         Some(())
     }

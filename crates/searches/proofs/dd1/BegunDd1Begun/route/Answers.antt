@@ -6,15 +6,15 @@ use Rattle.labelling.specs.Keeping.{label_of}
 use Rattle.labelling.proofs.Stands.{label_falls, stands_answer, stands_room, stands_on, stands_raised, stands_back, stands_last, stands_still}
 use Rattle.searches.proofs.dd1.BegunDd1Begun.route.Goals as goal
 
-pub returns-in_err-relabel : goal.returns-in_err-relabel
-returns-in_err-relabel g c = λ fits.
+pub returns-in_err-lift : goal.returns-in_err-lift
+returns-in_err-lift g c = λ fits.
     let n = g.N.Network.meaning c.args.net.now in
     let shaped = (g.N.Network.sound c.args.net.now).shaped in
     let i = c.advance.invariant in
     let out = ap (λ (s : Size). s.outfall) c.size-size.ensures in
     absurd (stands_raised n shaped c.advance.self.kept (steps_of c.advance.route) c.advance.at (i.stands fits) i.below
-    c.advance-in-advance.new.self c.relabel.new.self c.in_default.ensures.told (λ same. c.advance-test.true (same ∙ sym out))
-    c.in_err-relabel.ensures.told)
+    c.advance-in-advance.new.self c.lift.new.self c.in_default.ensures.told (λ same. c.advance-test.true (same ∙ sym out))
+    c.in_err-lift.ensures.told)
 
 pub returns-in_err-at : goal.returns-in_err-at
 returns-in_err-at g c = λ fits.
@@ -23,7 +23,7 @@ returns-in_err-at g c = λ fits.
     let i = c.advance.invariant in
     let out = ap (λ (s : Size). s.outfall) c.size-size.ensures in
     absurd (stands_last n shaped c.advance.self.kept (steps_of c.advance.route) c.advance.at (i.stands fits) i.below
-    c.advance-in-advance.new.self c.relabel.new.self c.in_default.ensures.told (λ same. c.advance-test.true (same ∙ sym out))
+    c.advance-in-advance.new.self c.in_ok-lift.ensures.told.0 c.in_default.ensures.told (λ same. c.advance-test.true (same ∙ sym out))
     c.in-Some-pop.last (steps_of c.pop.new.self) c.in-Some-pop.ensures c.in_err-at.ensures)
 
 pub search-preserved-in_ok-at : goal.search-preserved-in_ok-at
@@ -33,8 +33,9 @@ search-preserved-in_ok-at g c = λ fits.
     let i = c.advance.invariant in
     let out = ap (λ (s : Size). s.outfall) c.size-size.ensures in
     stands_back n shaped c.advance.self.kept (steps_of c.advance.route) c.advance.at (i.stands fits) i.below
-    c.advance-in-advance.new.self c.relabel.new.self c.in_default.ensures.told (λ same. c.advance-test.true (same ∙ sym out))
-    c.in-Some-pop.last c.in_ok-at.at (steps_of c.pop.new.self) c.in_ok-relabel.ensures.told c.in-Some-pop.ensures c.in_ok-at.ensures
+    c.advance-in-advance.new.self c.in_ok-lift.ensures.told.0 c.in_default.ensures.told (λ same. c.advance-test.true (same ∙ sym out))
+    c.lift.new.self c.in-Some-pop.last c.in_ok-at.at (steps_of c.pop.new.self) c.in_ok-lift.ensures.told.1 c.in_ok-lift.ensures.told.2
+    c.in-Some-pop.ensures c.in_ok-at.ensures
 
 pub search-preserved : goal.search-preserved
 search-preserved g c = λ fits.
@@ -43,8 +44,8 @@ search-preserved g c = λ fits.
     let i = c.advance.invariant in
     let out = ap (λ (s : Size). s.outfall) c.size-size.ensures in
     stands_still n shaped c.advance.self.kept (steps_of c.advance.route) c.advance.at (i.stands fits) i.below
-    c.advance-in-advance.new.self c.relabel.new.self c.in_default.ensures.told (λ same. c.advance-test.true (same ∙ sym out))
-    (steps_of c.pop.new.self) c.in_ok-relabel.ensures.told c.in_default-pop.ensures
+    c.advance-in-advance.new.self c.in_ok-lift.ensures.told.0 c.in_default.ensures.told (λ same. c.advance-test.true (same ∙ sym out))
+    c.lift.new.self (steps_of c.pop.new.self) c.in_ok-lift.ensures.told.1 c.in_ok-lift.ensures.told.2 c.in_default-pop.ensures
 
 pub returns-in_err-push : goal.returns-in_err-push
 returns-in_err-push g c = λ fits.

@@ -2,15 +2,16 @@ use Rattle.std.proofs.Common.{◌≡◌, ◌<◌}
 use Rattle.routes.specs.Routing.{steps_of}
 use Rattle.labelling.specs.Keeping.{label_of, current_of, rise_left}
 use Rattle.labelling.specs.Standing.{Fits}
-use Rattle.labelling.proofs.Stands.{Stands}
+use Rattle.labelling.proofs.Stands.{Stands, StandsOrEnds}
 use Rattle.searches.proofs.dd1.BegunDd1Begun.route.Given as goal
 
--- where the search was in step with the network, its labels and current steps fit, and its walk is along them
+-- where the search was in step with the network, its labels and current steps fit, and its walk is along them while the
+-- intake's label is below n
 abbrev pub invariant-search : goal.invariant-search
 invariant-search g l =
     let n = g.N.Network.meaning l.net in
     let was = l.fn.self.kept in
-    Fits n (label_of was) (current_of was) → Stands n l.self.kept (steps_of l.route) l.at
+    Fits n (label_of was) (current_of was) → StandsOrEnds n l.self.kept (steps_of l.route) l.at
 
 -- advancing raises no label
 abbrev pub invariant-advance : goal.invariant-advance
