@@ -1,7 +1,8 @@
 // Closing gaps among labels.
 ghost use Rattle.std.specs.Prelude.{◌<◌, ◌≤◌};
-ghost use Rattle.labelling.specs.Keeping.{rise_left};
+ghost use Rattle.labelling.specs.Keeping.{label_of, current_of, rise_left};
 ghost use Rattle.labelling.specs.Moving.{OnSomeUnit};
+ghost use Rattle.labelling.specs.Standing.{Fits};
 ghost use Rattle.labelling.specs.Gaps.{GapClosed, Lifted};
 
 use crate::labelling::Labelling;
@@ -22,8 +23,11 @@ impl Labelling {
     }
 
     // Where no junction has this label, raises each label above it to n at least: from there no open steps lead to the outfall.
+    // Labels and current steps that fit the network fit it still.
     pub fn close_gap<N: Network>(&mut self, net: &N, gap: u16)
         ensures told { GapClosed (N.meaning net.now).junctions gap self.old self.new }
+        ensures fits { Fits (N.meaning net.now) (label_of self.old) (current_of self.old) →
+            Fits (N.meaning net.now) (label_of self.new) (current_of self.new) }
         ensures rises { rise_left self.new ≤ rise_left self.old }
     {
         if self.labels.contains(&gap) {

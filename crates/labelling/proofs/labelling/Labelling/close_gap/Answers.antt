@@ -5,7 +5,7 @@ use Rattle.std.proofs.lemmas.List.{get_or_past}
 use Rattle.network.specs.declared.size.Size.{Size}
 use Rattle.labelling.specs.Keeping.{label_of}
 use Rattle.labelling.specs.Gaps.{IsGap, raised_above}
-use Rattle.labelling.proofs.Closing.{up_to_gap}
+use Rattle.labelling.proofs.Closing.{up_to_gap, fits_closed}
 use Rattle.labelling.proofs.labelling.Labelling.close_gap.Goals as goal
 
 pub returns-clause-told : goal.returns-clause-told
@@ -25,3 +25,7 @@ returns-clause-told g c =
     rest ∙ sym (up_to_gap n c.args.gap (label_of x) u (omega (arith, zero))))
     (cases_lt u 512) in
     record { labels = inl (none, fun_ext each); current = i.current }
+
+pub returns-clause-fits : goal.returns-clause-fits
+returns-clause-fits g c = fits_closed (g.N.Network.meaning c.args.net.now) (g.N.Network.sound c.args.net.now).shaped c.args.gap
+    c.args.self.now c.loop-v.self (returns-clause-told g c)
