@@ -48,17 +48,26 @@ pub enum Part {
     Network,
 }
 
-impl fmt::Display for Part {
-    ghost output = { λ p. Some (word_of p) };
-
-    fn fmt<W: fmt::Write>(&self, f: &mut fmt::Formatter<W>) -> fmt::Result {
-        f.write_str(match self {
+impl Part {
+    // The word for the part.
+    pub fn word(self) -> &'static str
+        ensures { result.now ≡ word_of self }
+    {
+        match self {
             Part::Reader => "reader",
             Part::Draft => "draft",
             Part::Chambers => "chambers",
             Part::Gathering => "gathering",
             Part::Network => "network",
-        })
+        }
+    }
+}
+
+impl fmt::Display for Part {
+    ghost output = { λ p. Some (word_of p) };
+
+    fn fmt<W: fmt::Write>(&self, f: &mut fmt::Formatter<W>) -> fmt::Result {
+        f.write_str(self.word())
     }
 }
 
