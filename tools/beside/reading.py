@@ -1,6 +1,7 @@
 """A second reading of drawings, written from docs/DRAWING.md, docs/PROGRAM.md, docs/REFUSALS.md, docs/LAYERS.md and
-docs/NETWORK.md. It shares no code with the program or with tools/drawing.py. What a network can deliver, and its bottleneck,
-it does not find by itself: it asks a solver that the caller hands in.
+docs/NETWORK.md; the budget that is always enough is from docs/SEARCHES.md. It shares no code with the program or with
+tools/drawing.py. What a network can deliver, and its bottleneck, it does not find by itself: it asks a solver that the caller
+hands in.
 
     reading = read(data)                    what the bytes of an input say
     for words in play(reading, solve, heard): ...    the lines that the program must print, word by word

@@ -21,7 +21,9 @@ const ROWS: usize = 1024;
 fn tell(text: &mut String, line: Line<'_>) -> anyhow::Result<()> {
     match line {
         Line::Settled {
-            litres, finished, ..
+            litres,
+            finished,
+            ..
         } => {
             let word = if finished { "yes" } else { "no" };
             writeln!(text, "settled {litres} {word}")?;
