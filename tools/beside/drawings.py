@@ -189,7 +189,7 @@ def table_records(rng, n, intake, outfall, reaches):
 
 def chamber_records(rng, n, amount):
     """Chambers, or none. A few are refused: at a junction that has one, at a twin, or one more than there may be."""
-    number = rng.choice([0, 0, 1, 2, 5, 32, 33 if rng.random() < 0.3 else 3])
+    number = rng.choice([0, 0, 1, 2, 5, 32, 33 if rng.random() < 0.5 else 3])
     at = rng.sample(range(n), min(n, number))
     if rng.random() < 0.03:
         at.insert(rng.randint(0, len(at)), rng.choice(at + [n, n + 1]))
@@ -240,14 +240,24 @@ def command_records(rng, reaches, budgets, most):
     return records
 
 
-def faulty(rng, records):
-    """The records with one more that some part refuses, at any place. Where it stands out of order, the reader refuses it."""
-    wrong = [shape(rng.choice([0, 1, 257]), 0, 1), shape(4, 0, 4), shape(4, 2, 2), reach(1, 1, 5), reach(0, 256, 5),
-             reach(0, 1, HIGHEST + 1), entry(b"C", 0, HIGHEST + 1), entry(b"C", 400, 1), entry(b"I", 400, 1),
-             entry(b"O", 0, HIGHEST + 1), name(500, b"ABCDEFGH"), name(0, b"ABCD EFG"), b"X"]
-    at = [1, rng.randint(0, len(records)), records.index(b"E"), records.index(b"E") + 1, len(records)]
-    place = min(rng.choice(at), len(records))
-    return records[:place] + [rng.choice(wrong)] + records[place:]
+def faulty(rng, n, records):
+    """The records with one more that some part refuses, just beyond a bound or far beyond it, at any place. Where it stands out
+    of order, the reader refuses it. A shape takes the place of the first record."""
+    wrong = [shape(257, 0, 1), shape(rng.choice([0, 1, 65535]), 0, 1), shape(n, 0, n), shape(n, n, 0), shape(n, 1, 1),
+             reach(1, 1, 5), reach(0, n, 5), reach(n, 0, 5), reach(0, 1, HIGHEST + 1), reach(1, 0, UNSTATED),
+             entry(b"C", 0, HIGHEST + 1), entry(b"C", n, 1), entry(b"I", n + 32, 1), entry(b"O", n + 1, 1),
+             entry(b"I", 0, HIGHEST + 1), entry(b"O", 0, UNSTATED - 1), name(n, b"ABCDEFGH"), name(0, b"ABCD EFG"),
+             name(0, b"ABCDEFG\x7f"), name(1, b"\x20BCDEFGH"), name(1, b"ABC\xc1EFGH"), b"X", b"h", b"\x00"]
+    extra = rng.choice(wrong)
+    if extra[:1] == b"H" and rng.random() < 0.8:
+        return [extra] + records[1:]
+    if extra[:1] in (b"R", b"N") and rng.random() < 0.6:
+        at = 1
+    elif extra[:1] in (b"C", b"I", b"O") and rng.random() < 0.7:
+        at = records.index(b"E") + 1
+    else:
+        at = rng.randint(0, len(records))
+    return records[:at] + [extra] + records[at:]
 
 
 def tangled(seed, index):
@@ -256,7 +266,7 @@ def tangled(seed, index):
     rng = random.Random(f"tangle {seed} {index}")
     n = rng.randint(2, 5)
     amount = rng.choice(LIMITS)
-    eight = bytes(rng.randint(0x21, 0x7E) for _ in range(8))
+    eight = bytes(rng.choice([0x21, 0x7E, rng.randint(0x21, 0x7E)]) for _ in range(8))
     makes = {
         "H": lambda: shape(n, 0, n - 1), "N": lambda: name(rng.randrange(n + 1), eight),
         "R": lambda: reach(rng.randrange(n), rng.randrange(n), amount(rng)), "E": lambda: b"E",
@@ -282,8 +292,8 @@ def drawing(seed, index):
     few = rng.choice([4, 12, 30]) if len(reaches) < 200 else 4
     records = table_records(rng, n, intake, outfall, reaches) + entries
     records += command_records(rng, len(reaches) + len(entries), [0, 1, 1, 2, 3, 5, 20, 65536], few)
-    if rng.random() < 0.08:
-        records = faulty(rng, records)
+    if rng.random() < 0.1:
+        records = faulty(rng, n, records)
     data = b"".join(records)
     if index % 500 == 499:
         data += b"T" * (65536 + rng.randint(-1, 1) - len(data))
