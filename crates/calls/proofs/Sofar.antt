@@ -18,9 +18,6 @@ pub record SoFar (was now : Net) (count litres : ℕ) : Type 0 where
   pub adds : litres ≡ litres_of was routes
   pub leads : now ≡ pushed_all routes was
 
-pub none_yet : (g : Net) → SoFar g g 0 0
-none_yet g = record { routes = []; firsts = tt; counts = refl; adds = refl; leads = refl }
-
 -- one route more
 pub one_more : (was now after : Net) (count litres d : ℕ) (ss : List ℕ) → SoFar was now count litres → IsFirst now ss →
     d ≡ least_headroom now.reaches ss → after ≡ pushed ss now → SoFar was after (count + 1) (litres + d)

@@ -52,13 +52,6 @@ keeps_sound = record {
       (fair_all g s)));
 }
 
-pub one_changed : OneChanged
-one_changed = record {
-  count = λ f k g. length-set g.reaches k (f (arc_at g.reaches k));
-  here = λ f k g low. get_or-set_same g.reaches k (f (arc_at g.reaches k)) no_arc low;
-  there = λ f k j g ne. get_or-set_other g.reaches k j (f (arc_at g.reaches k)) no_arc ne;
-}
-
 -- reach k of drained reaches, wherever k is
 pub drained_at : (rs : List Arc) (k : ℕ) → arc_at (map (carrying 0) rs) k ≡ carrying 0 (arc_at rs k)
 drained_at rs k = ⊎_elim

@@ -11,9 +11,6 @@ abbrev pub AllPassed : StepEnd → List Arc → ℕ → (ℕ → Type 0) → ℕ
 AllPassed e rs v P c = (u : ℕ) → OpensAt e rs v u → GoesFirst u c → P u
 
 module _ (e : StepEnd) (rs : List Arc) (v : ℕ) (P : ℕ → Type 0) where
-  pub none_passed : AllPassed e rs v P first_step
-  none_passed u o b = absurd (omega arith)
-
   -- one more
   pub more_passed : (c next x : ℕ) → ((u : ℕ) → OpensAt e rs v u → (GoesFirst u next ↔ GoesFirst u c ⊎ (u ≡ x))) →
       AllPassed e rs v P c → P x → AllPassed e rs v P next
