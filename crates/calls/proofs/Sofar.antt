@@ -1,5 +1,5 @@
 -- A settling that is under way: the routes that it has pushed.
-use Rattle.std.proofs.Common.{◌≡◌, ℕ, ◌+◌, ◌≤◌, true, false, List, [], ◌∷◌, ◌++◌, length, refl, sym, ap, ap₂, ◌∙◌, subst, inl, inr, arith, length-append}
+use Rattle.std.proofs.Common.{◌≡◌, ℕ, ◌+◌, ◌≤◌, true, false, List, [], ◌∷◌, ◌++◌, length, sym, ap, ap₂, ◌∙◌, subst, inl, inr, arith, length-append}
 use Rattle.flow.specs.Net.{Net, Shaped}
 use Rattle.flow.specs.Routes.{Finished, IsFirst}
 use Rattle.flow.specs.Pushes.{least_headroom, pushed, pushed_all, EachPushed, litres_of}

@@ -5,9 +5,6 @@ use Rattle.std.proofs.lemmas.Bool.Decides.{nat_tests}
 use Rattle.refusal.specs.Checks.{first_of}
 use Rattle.flow.specs.Bounds.{most_junctions, most_reaches, highest_setting, highest_limit}
 use Rattle.flow.specs.Net.{Net}
-use Rattle.flow.specs.Flows.{carries_any}
-use Rattle.layer.specs.Layering.{crowded}
-use Rattle.layer.specs.Gathered.{gathered}
 use Rattle.gathering.specs.declared.role.Role.{Role}
 use Rattle.gathering.specs.Bounds.{most_of_each}
 use Rattle.gathering.specs.Entering.{Feeders, listed, of_role, limit_of, too_high, gather_checks}

@@ -1,9 +1,7 @@
 -- The first reach with a property, in two lists whose reaches have it alike.
-use Rattle.std.proofs.Common.{◌≡◌, ℕ, ◌+◌, ◌-◌, ◌<◌, ◌≤◌, List, ◌++◌, length, Some, None, Option, sym, subst, ⊎_elim, arith, length-append}
-use Rattle.std.proofs.lemmas.Bool.{cases_lt}
-use Rattle.std.proofs.lemmas.List.{get_or_append_left, get_or-append_right}
-use Rattle.flow.specs.Net.{Arc, no_arc, arc_at}
-use Rattle.network.specs.Touching.{NoneFrom, FirstFrom}
+use Rattle.std.proofs.Common.{◌≡◌, ℕ, ◌<◌, List, length, Some, None, Option, arith}
+use Rattle.flow.specs.Net.{Arc, arc_at}
+use Rattle.network.specs.Touching.{FirstFrom}
 
 -- P of a reach of one list comes to Q of the reach with the same number of the other
 module _ (P Q : Arc → Type 0) (rs others : List Arc) (long : length others ≡ length rs) (k : ℕ)

@@ -17,7 +17,7 @@ use Rattle.flow.proofs.Walks.{IsWalk-append}
 use Rattle.flow.proofs.Besting.{near_along}
 use Rattle.routes.specs.declared.step.StepEnd.TheVariants.{Begin}
 use Rattle.routes.specs.Ends.{OpensAt}
-use Rattle.routes.proofs.Passing.{AllPassed, more_passed, all_passed}
+use Rattle.routes.proofs.Passing.{AllPassed, more_passed}
 
 -- a junction is marked near
 abbrev pub Near : List ℕ → ℕ → Type 0

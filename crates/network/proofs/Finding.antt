@@ -1,14 +1,11 @@
 -- The first reach with a property, found among rows.
-use Rattle.std.proofs.Common.{◌≡◌, ℕ, ◌+◌, ◌-◌, ◌<◌, ◌≤◌, List, length, get_or, drop, Some, None, Option, option_map, MatchOption, refl, sym, ap, ◌∙◌, subst, ⊎_elim, arith}
+use Rattle.std.proofs.Common.{◌≡◌, ℕ, ◌+◌, ◌-◌, ◌<◌, List, length, get_or, drop, Some, None, Option, option_map, MatchOption, sym, ap, ◌∙◌, subst, arith}
 use Rattle.std.specs.List.{AllWithin, HoldsAt}
 use Rattle.std.proofs.lemmas.List.{get_or-drop, length-drop}
-use Rattle.std.proofs.lemmas.Bool.{cases_order}
-use Rattle.std.proofs.lemmas.List.Elements.{All-get_or}
-use Rattle.flow.specs.Net.{Arc, Net, no_arc, arc_at, Joined, Sound}
+use Rattle.flow.specs.Net.{Arc, arc_at}
 use Rattle.network.specs.declared.row.Row.{Row}
 use Rattle.network.specs.Rows.{no_row, arc_of_row, arcs_in}
-use Rattle.network.specs.Touching.{NoneFrom, FirstFrom, Touched}
-use Rattle.network.specs.Laws.{TouchLaws}
+use Rattle.network.specs.Touching.{NoneFrom, FirstFrom}
 use Rattle.network.proofs.Rowing.{count_in, arc_in_row}
 
 -- the first of the rows from k on that has a property holds the first reach that has it

@@ -7,7 +7,7 @@ use Rattle.refusal.specs.declared.Part.{Part}
 use Rattle.refusal.specs.declared.Part.TheVariants.{Network}
 use Rattle.refusal.specs.Checks.{first_of, afterwards}
 use Rattle.refusal.proofs.Checking.{caught, passed, one_answer}
-use Rattle.flow.specs.Bounds.{highest_limit, highest_setting}
+use Rattle.flow.specs.Bounds.{highest_setting}
 use Rattle.flow.specs.Net.{Arc, Net, arc_at, Sound}
 use Rattle.flow.specs.Changes.{with_reaches, reach_changed}
 use Rattle.flow.proofs.Changing.{keeps_sound}

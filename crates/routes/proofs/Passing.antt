@@ -1,10 +1,9 @@
 -- What holds of all the open steps at a junction that have been passed.
-use Rattle.std.proofs.Common.{◌≡◌, ℕ, ◌⊎◌, ◌↔◌, List, subst, sym, ⊎_elim, arith}
+use Rattle.std.proofs.Common.{◌≡◌, ℕ, ◌⊎◌, ◌↔◌, List, subst, sym, ⊎_elim}
 use Rattle.flow.specs.Net.{Arc}
 use Rattle.flow.specs.Routes.{GoesFirst}
 use Rattle.routes.specs.declared.step.StepEnd.{StepEnd}
 use Rattle.routes.specs.Ends.{OpensAt}
-use Rattle.routes.specs.Going.{first_step}
 
 -- the steps that go before c have the property
 abbrev pub AllPassed : StepEnd → List Arc → ℕ → (ℕ → Type 0) → ℕ → Type 0
