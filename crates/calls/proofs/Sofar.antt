@@ -1,5 +1,5 @@
 -- A settling that is under way: the routes that it has pushed.
-use Rattle.std.proofs.Common.{◌≡◌, ℕ, ◌+◌, ◌≤◌, true, false, List, [], ◌∷◌, ◌++◌, length, refl, sym, ap, ap₂, ◌∙◌, subst, inl, inr, arith, length-append}
+use Rattle.std.proofs.Common.{◌≡◌, ℕ, ◌+◌, ◌≤◌, true, false, List, [], ◌∷◌, ◌++◌, length, sym, ap, ap₂, ◌∙◌, subst, inl, inr, arith, length-append}
 use Rattle.flow.specs.Net.{Net, Shaped}
 use Rattle.flow.specs.Routes.{Finished, IsFirst}
 use Rattle.flow.specs.Pushes.{least_headroom, pushed, pushed_all, EachPushed, litres_of}
@@ -17,9 +17,6 @@ pub record SoFar (was now : Net) (count litres : ℕ) : Type 0 where
   pub counts : count ≡ length routes
   pub adds : litres ≡ litres_of was routes
   pub leads : now ≡ pushed_all routes was
-
-pub none_yet : (g : Net) → SoFar g g 0 0
-none_yet g = record { routes = []; firsts = tt; counts = refl; adds = refl; leads = refl }
 
 -- one route more
 pub one_more : (was now after : Net) (count litres d : ℕ) (ss : List ℕ) → SoFar was now count litres → IsFirst now ss →

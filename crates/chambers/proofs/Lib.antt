@@ -1,5 +1,4 @@
 pub mod Starting
-pub mod Telling
 pub mod Touches
 pub mod Changes
 pub mod Admitting

@@ -25,11 +25,12 @@ chamber_checks g own v q =
 abbrev pub chamber_reach : Net → List Arc → ℕ → ℕ → Arc
 chamber_reach g own v q = record { tail = v; head = g.junctions + length own; limit = q; carried = 0 }
 
--- what the entry makes of the network h as it is with the chambers that are there: one junction more, the twin of v;
--- every reach that left v leaves the twin, and an outfall v is the twin; one reach more, from v to the twin, and dry
+-- the twin in place of v, and every other junction w as it is
 abbrev pub instead : ℕ → ℕ → ℕ → ℕ
 instead v twin w = cond (w == v) twin w
 
+-- what the entry makes of the network h as it is with the chambers that are there: one junction more, the twin of v;
+-- every reach that left v leaves the twin, and an outfall v is the twin; one reach more, from v to the twin, and dry
 abbrev pub with_chamber : ℕ → ℕ → Net → Net
 with_chamber v q h = record {
   junctions = h.junctions + 1;

@@ -47,11 +47,12 @@ feed_at (Some e) p g fs next other =
     (next (with_feeder e.role (feeder e.role g e.junction e.stated) fs))
 feed_at None p g fs next other = other
 
--- sources and sinks, and then the commands, over the network with all of them
+-- the lines of the commands, over the network with these feeders
 abbrev pub then_commands : Naming → Drawn → Net → (ℕ → Part) → Feeders → Lines
 then_commands names d g giver fs =
     opened_lines names (asked d) (layer_giver parts.Gathering g giver) (gathered g (listed fs))
 
+-- the lines of the sources and sinks that come next, and then those of the commands; fs are there
 abbrev pub feeder_lines : Naming → Drawn → Net → (ℕ → Part) → Feeders → Lines
 feeder_lines names (item p a rest) g giver fs =
     feed_at (feed_in a) p g fs (feeder_lines names rest g giver) (then_commands names (item p a rest) g giver fs)
@@ -80,11 +81,12 @@ chamber_at (Some e) p g own next other =
     refusable (first_of (chamber_checks g own e.0 e.1)) p (next (own ++ (chamber_reach g own e.0 e.1 ∷ [])))
 chamber_at None p g own next other = other
 
--- chambers, and then sources and sinks, over the network with all chambers
+-- the lines of the sources and sinks and of what follows them, over the network with these chambers
 abbrev pub then_feeders : Naming → Drawn → Net → (ℕ → Part) → List Arc → Lines
 then_feeders names d g giver own =
     feeder_lines names d (chambered g own) (layer_giver parts.Chambers g giver) no_feeders
 
+-- the lines of the chambers that come next, and then those of the sources and sinks; own are there
 abbrev pub chamber_lines : Naming → Drawn → Net → (ℕ → Part) → List Arc → Lines
 chamber_lines names (item p a rest) g giver own =
     chamber_at (chamber_in a) p g own (chamber_lines names rest g giver) (then_feeders names (item p a rest) g giver own)

@@ -3,4 +3,4 @@
 
 pub mod reading;
 
-pub use reading::{enter_chambers, enter_feeders, located};
+pub use reading::{enter_chambers, enter_feeders};

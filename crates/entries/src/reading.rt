@@ -18,8 +18,7 @@ use chambers::Chambers;
 use drawing::{Reader, Record};
 use gathering::{Gathering, Role};
 use network::Network;
-use refusal::Refusal;
-pub use refusal::located;
+use refusal::{Refusal, located};
 
 // Enters the chambers that the reader has next, up to another record.
 pub fn enter_chambers<N: Network>(

@@ -1,5 +1,5 @@
 -- What changes of a network keep, and the other laws of specs/Laws.antt.
-use Rattle.std.proofs.Common.{◌≡◌, ℕ, ◌+◌, ◌*◌, ◌/◌, ◌<◌, ◌≤◌, List, map, length, set, pos, ◌-ℤ◌, sym, ap, ◌∙◌, subst, ⊎_elim, arith, length-set, get_or-set_other, get_or-set_same}
+use Rattle.std.proofs.Common.{◌≡◌, ℕ, ◌+◌, ◌*◌, ◌/◌, ◌<◌, ◌≤◌, List, map, length, set, pos, ◌-ℤ◌, sym, ap, ◌∙◌, subst, ⊎_elim, arith, length-set}
 use lib.ListN.{length-map}
 use Rattle.std.specs.List.{All}
 use Rattle.std.proofs.lemmas.List.Elements.{All-set, All-weaker, All-map, All-get_or, All-from_get_or}
@@ -11,7 +11,7 @@ use Rattle.flow.specs.Net.{Arc, Net, no_arc, arc_at, FairArc, Sound}
 use Rattle.flow.specs.Steps.{begins, finishes, headroom}
 use Rattle.flow.specs.Flows.{sum_of, out_of, into, leaving, entering}
 use Rattle.flow.specs.Changes.{carrying, limiting, with_reaches, reach_changed, drained}
-use Rattle.flow.specs.Laws.{KeepsSound, OneChanged, DrainedIsDry, TwoSteps, AmountsBounded}
+use Rattle.flow.specs.Laws.{KeepsSound, DrainedIsDry, TwoSteps, AmountsBounded}
 use Rattle.flow.proofs.Fairness.{fair_at, fair_all, sound_from_fair}
 use Rattle.flow.proofs.Sums.{sum_of-le, out_of-le, into-le, sum_of-none}
 
@@ -50,13 +50,6 @@ keeps_sound = record {
       (All-map (FairArc g.junctions) (carrying 0) g.reaches
       (All-weaker (FairArc g.junctions) (λ r. FairArc g.junctions (carrying 0 r)) (λ r h. (h.0, omega arith, h.2)) g.reaches
       (fair_all g s)));
-}
-
-pub one_changed : OneChanged
-one_changed = record {
-  count = λ f k g. length-set g.reaches k (f (arc_at g.reaches k));
-  here = λ f k g low. get_or-set_same g.reaches k (f (arc_at g.reaches k)) no_arc low;
-  there = λ f k j g ne. get_or-set_other g.reaches k j (f (arc_at g.reaches k)) no_arc ne;
 }
 
 -- reach k of drained reaches, wherever k is

@@ -8,10 +8,6 @@ use Rattle.std.proofs.lemmas.Bool.Decides.{nat_tests}
 use Rattle.flow.specs.Net.{Arc, no_arc, arc_at}
 use Rattle.flow.specs.Flows.{sum_of, out_of, into}
 
-pub sum_of-push : (f : Arc → ℕ) (rs : List Arc) (r : Arc) → sum_of f (rs ++ r ∷ []) ≡ sum_of f rs + f r
-sum_of-push f [] r = omega arith
-sum_of-push f (q ∷ rs) r = omega (arith, sum_of-push f rs r)
-
 -- a sum of numbers that are at most c each
 pub sum_of-le : (f : Arc → ℕ) (c : ℕ) (rs : List Arc) → All (λ r. f r ≤ c) rs → sum_of f rs ≤ c * length rs
 sum_of-le f c [] h = omega arith

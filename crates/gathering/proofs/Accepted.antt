@@ -5,20 +5,11 @@ use Rattle.std.proofs.lemmas.Bool.Decides.{nat_tests}
 use Rattle.refusal.specs.Checks.{first_of}
 use Rattle.flow.specs.Bounds.{most_junctions, most_reaches, highest_setting, highest_limit}
 use Rattle.flow.specs.Net.{Net}
-use Rattle.flow.specs.Flows.{carries_any}
-use Rattle.layer.specs.Layering.{crowded}
-use Rattle.layer.specs.Gathered.{gathered}
 use Rattle.gathering.specs.declared.role.Role.{Role}
 use Rattle.gathering.specs.Bounds.{most_of_each}
 use Rattle.gathering.specs.Entering.{Feeders, listed, of_role, limit_of, too_high, gather_checks}
 
 module _ (role : Role) (g : Net) (fs : Feeders) (v : ℕ) (stated : Option ℕ) where
-  -- where the first four checks pass, and no reach carries, all five do
-  pub checks_pass : v < g.junctions → too_high stated ≡ false → length (of_role role fs) < most_of_each →
-      crowded (g.junctions + 2) (length g.reaches + length (listed fs) + 1) ≡ false →
-      carries_any (gathered g (listed fs)).reaches ≡ false → first_of (gather_checks role g fs v stated) ≡ None
-  checks_pass inside low room small dry = grind (arith, nat_tests)
-
   -- what is known of an entry that is accepted
   pub record Accepted : Type 0 where
     pub inside : v < g.junctions

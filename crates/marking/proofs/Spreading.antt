@@ -17,7 +17,7 @@ use Rattle.flow.proofs.Walks.{IsWalk-append}
 use Rattle.flow.proofs.Besting.{near_along}
 use Rattle.routes.specs.declared.step.StepEnd.TheVariants.{Begin}
 use Rattle.routes.specs.Ends.{OpensAt}
-use Rattle.routes.proofs.Passing.{AllPassed, more_passed, all_passed}
+use Rattle.routes.proofs.Passing.{AllPassed, more_passed}
 
 -- a junction is marked near
 abbrev pub Near : List ℕ → ℕ → Type 0
@@ -86,22 +86,7 @@ spread_start g shaped = record {
         (λ ne. absurd (omega (arith, near, there blank g.intake low v ne, blank_far v))) (cases_eq v g.intake)
 
 module _ (g : Net) (marks q : List ℕ) (i : ℕ) (h : Spread g marks q i) where
-  -- a junction that has been looked at
-  pub spread_on : ((s : ℕ) → OpensAt Begin g.reaches (get_or q i 0) s → Near marks (finishes g.reaches s)) → Spread g marks q (i + 1)
-  spread_on all = record {
-    long = h.long;
-    bits = h.bits;
-    intake = h.intake;
-    reached = h.reached;
-    queued = h.queued;
-    listed = h.listed;
-    many = h.many;
-    done = λ k s b l opens from. ⊎_elim
-        (λ (now : k ≡ i). all s (record { opens = opens; there = from ∙ ap (λ j. get_or q j 0) now }))
-        (λ (ne : k ≢ i). h.done k s (omega arith) l opens from) (cases_eq k i);
-  }
-
-  -- when all have been, the marks tell the near side
+  -- when all junctions of the list have been looked at, the marks tell the near side
   pub spread_near : length q ≤ i → IsBottleneck g (marked marks)
   spread_near end v low = (
     λ near. h.reached v (eqb-true (get_or marks v 0) 1 near),
@@ -176,26 +161,9 @@ pub record Leaving (g : Net) (marks q : List ℕ) (i v c : ℕ) : Type 0 where
   pub passed : AllPassed Begin g.reaches v (λ t. Near marks (finishes g.reaches t)) c
 
 module _ (g : Net) (marks q : List ℕ) (i v c : ℕ) (e : Leaving g marks q i v c) where
-  -- all its steps have been passed
-  pub left : ((s : ℕ) → OpensAt Begin g.reaches v s → GoesFirst s c) → Spread g marks q (i + 1)
-  left none = spread_on g marks q i e.spread (λ s o.
-      all_passed Begin g.reaches v (λ t. Near marks (finishes g.reaches t)) c none e.passed s
-      (record { opens = o.opens; there = o.there ∙ e.here }))
-
   -- step x, to junction u, is passed
   module _ (next x u : ℕ) (o : OpensAt Begin g.reaches v x) (to : u ≡ finishes g.reaches x)
       (now : (s : ℕ) → OpensAt Begin g.reaches v s → (GoesFirst s next ↔ GoesFirst s c ⊎ (s ≡ x))) where
-    pub leaving_known : get_or marks u 0 ≢ 0 → Leaving g marks q i v next
-    leaving_known ne = record {
-      spread = e.spread;
-      within = e.within;
-      here = e.here;
-      passed = more_passed Begin g.reaches v (λ t. Near marks (finishes g.reaches t)) c next x now e.passed
-          (let b = e.spread.bits u in
-          let near : get_or marks u 0 ≡ 1 = omega arith in
-          ap (λ (w : ℕ). get_or marks w 0) (sym to) ∙ near);
-    }
-
     module _ (far : get_or marks u 0 ≡ 0) (low : u < 512) where
       at_place : OpensAt Begin g.reaches (get_or q i 0) x
       at_place = record { opens = o.opens; there = o.there ∙ sym e.here }

@@ -1,14 +1,11 @@
--- Touch: one more reach that does not touch; and the laws of its answer.
-use Rattle.std.proofs.Common.{◌≡◌, ℕ, ◌+◌, ◌-◌, ◌<◌, ◌≤◌, List, length, get_or, drop, Some, None, Option, option_map, MatchOption, refl, sym, ap, ◌∙◌, subst, ⊎_elim, arith}
+-- The first reach with a property, found among rows.
+use Rattle.std.proofs.Common.{◌≡◌, ℕ, ◌+◌, ◌-◌, ◌<◌, List, length, get_or, drop, Some, None, Option, option_map, MatchOption, sym, ap, ◌∙◌, subst, arith}
 use Rattle.std.specs.List.{AllWithin, HoldsAt}
 use Rattle.std.proofs.lemmas.List.{get_or-drop, length-drop}
-use Rattle.std.proofs.lemmas.Bool.{cases_order}
-use Rattle.std.proofs.lemmas.List.Elements.{All-get_or}
-use Rattle.flow.specs.Net.{Arc, Net, no_arc, arc_at, Joined, Sound}
+use Rattle.flow.specs.Net.{Arc, arc_at}
 use Rattle.network.specs.declared.row.Row.{Row}
 use Rattle.network.specs.Rows.{no_row, arc_of_row, arcs_in}
-use Rattle.network.specs.Touching.{NoneFrom, FirstFrom, Touched}
-use Rattle.network.specs.Laws.{TouchLaws}
+use Rattle.network.specs.Touching.{NoneFrom, FirstFrom}
 use Rattle.network.proofs.Rowing.{count_in, arc_in_row}
 
 -- the first of the rows from k on that has a property holds the first reach that has it
@@ -40,22 +37,3 @@ first_in P rows k r h = go r h
       subst P (sym (arc_in_row rows (k + i) ∙ ap arc_of_row (sym (get_or-drop k rows i no_row)))) (w.1 no_row),
       none i w.2,
     )
-
-module _ (v : ℕ) (rs : List Arc) (k : ℕ) where
-  one : (a b : Option ℕ) → Touched v rs k a → Touched v rs k b → a ≡ b
-  one None None h t = refl
-  one None (Some j) h t = absurd (h j t.0 t.1 t.2)
-  one (Some i) None h t = absurd (t i h.0 h.1 h.2)
-  one (Some i) (Some j) h t =
-      ⊎_elim (λ same. ap Some same)
-      (⊎_elim (λ less. absurd (t.3 i h.0 less h.2)) (λ more. absurd (h.3 j t.0 more t.2)))
-      (cases_order i j)
-
-outside : (g : Net) (v k : ℕ) (a : Option ℕ) → Sound g → g.junctions ≤ v → Touched v g.reaches k a → a ≡ None
-outside g v k None s past t = refl
-outside g v k (Some i) s past t =
-    let joined = All-get_or (Joined g.junctions) g.reaches i no_arc t.1 s.shaped.joined in
-    absurd (⊎_elim (λ e. let z : ⊥ = omega (arith, joined.0) in z) (λ e. let z : ⊥ = omega (arith, joined.1) in z) t.2)
-
-pub touch_laws : TouchLaws
-touch_laws = record { one = one; outside = outside }

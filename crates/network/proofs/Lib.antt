@@ -1,4 +1,3 @@
 pub mod Rowing
-pub mod Telling
 pub mod Finding
 pub mod Setting

@@ -7,7 +7,7 @@ use Rattle.refusal.specs.declared.Part.{Part}
 use Rattle.refusal.specs.declared.Part.TheVariants.{Network}
 use Rattle.refusal.specs.Checks.{first_of, afterwards}
 use Rattle.refusal.proofs.Checking.{caught, passed, one_answer}
-use Rattle.flow.specs.Bounds.{highest_limit, highest_setting}
+use Rattle.flow.specs.Bounds.{highest_setting}
 use Rattle.flow.specs.Net.{Arc, Net, arc_at, Sound}
 use Rattle.flow.specs.Changes.{with_reaches, reach_changed}
 use Rattle.flow.proofs.Changing.{keeps_sound}
@@ -47,10 +47,6 @@ module _ (g : Net) (giver : ℕ → Part) (k : ℕ) (s : Sound g) where
           let fits = limit_fits q (arc_at g.reaches k) (giver k) own in
           keeps_sound.limit g k q s fits.0 (omega (arith, fits.1))
 
--- what a reach keeps to whatever its ends are
-abbrev pub Bounded : Arc → Type 0
-Bounded r = (r.carried ≤ r.limit) × (r.limit ≤ highest_limit)
-
 -- a change in a network's list is a change of the network
 pub changed_net : (c : Change) (g : Net) (giver : ℕ → Part) (k : ℕ) (r : Result Unit Refusal) (after : List Arc) →
     ChangedIn c g.reaches giver k r after → Changed c g giver k r (with_reaches g after)
@@ -69,10 +65,6 @@ module _ (c : Change) (g : Net) (giver : ℕ → Part) (k : ℕ) where
       ChangedIn c g.reaches giver k r after.reaches
   changed_list (Ok _) after h = (h.0, ap (λ (x : Net). x.reaches) h.1)
   changed_list (Err e) after h = (h.0, ap (λ (x : Net). x.reaches) h.1)
-
-  pub changed_frame : (r : Result Unit Refusal) (after : Net) → Changed c g giver k r after → after ≡ with_reaches g after.reaches
-  changed_frame (Ok _) after h = h.1 ∙ ap (λ (x : Net). with_reaches g x.reaches) (sym h.1)
-  changed_frame (Err e) after h = h.1 ∙ ap (λ (x : Net). with_reaches g x.reaches) (sym h.1)
 
 sound : (c : Change) (g : Net) (giver : ℕ → Part) (k : ℕ) (r : Result Unit Refusal) (z : Net) →
     Sound g → Changed c g giver k r z → Sound z

@@ -26,10 +26,11 @@ is_back Back = true
 abbrev pub reach_checks : List Arc → ℕ → List Check
 reach_checks rs k = check (nat_le (length rs) k) 4 Network ∷ []
 
--- and else it is told by its record
+-- and else a record is answered that has its numbers
 abbrev pub Recorded : List Arc → ℕ → Result Reach Refusal → Type 0
 Recorded rs k (Ok r) = arc_in r ≡ arc_at rs k
 Recorded rs k (Err _) = Unit {0}
 
+-- what the call `reach` answers: a refusal, or the record of reach k
 abbrev pub Told : List Arc → ℕ → Result Reach Refusal → Type 0
 Told rs k r = Judged (reach_checks rs k) r × Recorded rs k r

@@ -42,10 +42,12 @@ abbrev pub row_changed : Change → Row → Row
 row_changed (Carry a) row = record { tail = row.tail; head = row.head; limit = row.limit; carried = a }
 row_changed (Limit q) row = record { tail = row.tail; head = row.head; limit = q; carried = row.carried }
 
+-- and where that is accepted, the row after it
 abbrev pub Rewritten : Change → Row → Result Row Refusal → Type 0
 Rewritten c row (Ok new) = new ≡ row_changed c row
 Rewritten c row (Err _) = Unit {0}
 
+-- a change of one row, which the part answers for: refused, or the row after it
 abbrev pub Remade : Change → Row → Part → Result Row Refusal → Type 0
 Remade c row part r = Judged (own_checks c (arc_of_row row) part) r × Rewritten c row r
 

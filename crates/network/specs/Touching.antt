@@ -15,5 +15,6 @@ abbrev pub FirstFrom : (Arc → Type 0) → List Arc → ℕ → Option ℕ → 
 FirstFrom P rs k (Some i) = (k ≤ i) × (i < length rs) × P (arc_at rs i) × NoneFrom P rs k i
 FirstFrom P rs k None = NoneFrom P rs k (length rs)
 
+-- what touch answers
 abbrev pub Touched : ℕ → List Arc → ℕ → Option ℕ → Type 0
 Touched v rs k answer = FirstFrom (Touches v) rs k answer

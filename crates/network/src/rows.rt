@@ -1,5 +1,4 @@
 // Calls on rows that hold reaches.
-ghost use Rattle.std.specs.Prelude.{◌≡◌};
 ghost use Rattle.network.specs.Rows.{arcs_in};
 ghost use Rattle.network.specs.Changing.{ChangedIn, Written};
 ghost use Rattle.network.specs.Touching.{Touched};

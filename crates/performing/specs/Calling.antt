@@ -38,6 +38,7 @@ AnswersBy (call.Reach k) g (answer.Reach r) = arc_in r ≡ arc_at g.reaches k
 AnswersBy (call.Touch v k) g (answer.Touched i) = Touched v g.reaches k i
 AnswersBy c g a = ⊥
 
+-- what came back is the call's answer, or a refusal
 abbrev pub Answers : Call → Net → Result Answer Refusal → Type 0
 Answers c g (Ok a) = AnswersBy c g a
 Answers c g (Err e) = ⊤

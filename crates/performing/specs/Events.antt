@@ -21,7 +21,7 @@ event_of call.Size marks g = reading
 event_of (call.Reach k) marks g = reading
 event_of (call.Touch v k) marks g = reading
 
--- and of one that is
+-- and of any call, by what came back: of a refused one no more than that some call was refused
 abbrev pub event_by : Result Answer Refusal → Call → List ℕ → Net → Event
 event_by (Ok a) c marks g = event_of c marks g
 event_by (Err e) c marks g = refusal

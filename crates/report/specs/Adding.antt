@@ -4,6 +4,7 @@ use Rattle.desk.specs.Lines.{Lines, settled_line, tally_line}
 use Rattle.desk.specs.Laws.{starts_with}
 use Rattle.report.specs.Most.{is_drained, is_tally}
 
+-- whether a line tells a settling
 abbrev pub is_settled : List ℕ → Bool
 is_settled l = starts_with (codes "settled ") l
 

@@ -17,6 +17,7 @@ drafted (shape n i o) g = with_shape g n i o
 drafted (reach t h q) g = with_reach g t h q
 drafted a g = g
 
+-- the network that the table comes to, from g on
 abbrev pub table_of : Drawn → Net → Net
 table_of (item p a rest) g = table_of rest (drafted a g)
 table_of (end p) g = g

@@ -6,6 +6,7 @@ use Rattle.drawing.specs.Ahead.{Drawn, item, end, refused}
 use Rattle.desk.specs.Lines.{Lines, network_line}
 use Rattle.desk.specs.Laws.{starts_with}
 
+-- whether a line tells the size of a network, and whether it tells a refusal
 abbrev pub is_network : List ℕ → Bool
 is_network l = starts_with (codes "network ") l
 

@@ -1,19 +1,15 @@
 -- What holds of all the open steps at a junction that have been passed.
-use Rattle.std.proofs.Common.{◌≡◌, ℕ, ◌⊎◌, ◌↔◌, List, subst, sym, ⊎_elim, arith}
+use Rattle.std.proofs.Common.{◌≡◌, ℕ, ◌⊎◌, ◌↔◌, List, subst, sym, ⊎_elim}
 use Rattle.flow.specs.Net.{Arc}
 use Rattle.flow.specs.Routes.{GoesFirst}
 use Rattle.routes.specs.declared.step.StepEnd.{StepEnd}
 use Rattle.routes.specs.Ends.{OpensAt}
-use Rattle.routes.specs.Going.{first_step}
 
 -- the steps that go before c have the property
 abbrev pub AllPassed : StepEnd → List Arc → ℕ → (ℕ → Type 0) → ℕ → Type 0
 AllPassed e rs v P c = (u : ℕ) → OpensAt e rs v u → GoesFirst u c → P u
 
 module _ (e : StepEnd) (rs : List Arc) (v : ℕ) (P : ℕ → Type 0) where
-  pub none_passed : AllPassed e rs v P first_step
-  none_passed u o b = absurd (omega arith)
-
   -- one more
   pub more_passed : (c next x : ℕ) → ((u : ℕ) → OpensAt e rs v u → (GoesFirst u next ↔ GoesFirst u c ⊎ (u ≡ x))) →
       AllPassed e rs v P c → P x → AllPassed e rs v P next

@@ -52,10 +52,6 @@ module _ (n : ℕ) (rs : List Arc) (joined : All (Joined n) rs) (e : StepEnd) (v
         (λ (from : first / 2 ≤ along_reach u). absurd (touched.3 (along_reach u) from low (opens_touches u o)))
         (cases_lt (along_reach u) (first / 2))
 
-    pub passed_over : ((s : ℕ) → OpensAt e rs v s → ¬ (along_reach s ≡ k)) →
-        (u : ℕ) → OpensAt e rs v u → GoesFirst u (2 * k + 2) → GoesFirst u c
-    passed_over none u o low = before u o (let ne = none u o in omega arith)
-
     module _ (x : OpenStep) (is : TheOpen rs e v k (Some x)) where
       just_passed : (u : ℕ) → OpensAt e rs v u → GoesFirst u (2 * k + 2) → GoesFirst u c ⊎ (u ≡ x.number)
       just_passed u o low = ⊎_elim (λ (here : along_reach u ≡ k). inr (one_open u x.number o is.1 (here ∙ sym is.2)))

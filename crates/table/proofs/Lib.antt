@@ -1,2 +1,1 @@
 pub mod Changing
-pub mod Edging

@@ -7,8 +7,8 @@ use network::{Row, Size};
 pub mod calls;
 
 // A network that is still being laid, in the first rows of a lent table: as many as its size has reaches. (The rows are
-// lent, and are no Vec, since the library has no heap.) Whatever the
-// other rows hold, it keeps to the bounds of a network at all times, so that it can be commissioned at any time.
+// lent, and are no Vec, since the library has no heap.) Whatever the other rows hold, the draft keeps to the bounds of a
+// network at all times, so that it can be commissioned at any time.
 #[derive(Drop)]
 pub struct Draft<'a> {
     pub(crate) rows: &'a mut [Row],
