@@ -19,11 +19,11 @@ RowAt own e (Some row) = (e < length own) × (arc_of_row row ≡ arc_at own e)
 RowAt own e None = length own ≤ e
 
 -- whether a reach is put in at a place, among so many: where there is room and the place is not behind the end; and else
--- why not
+-- why not, of both reasons that there is no room
 abbrev pub Insertion : ℕ → ℕ → Result Unit NotInserted → Type 0
 Insertion count at (Ok _) = (count < most_own) × (at ≤ count)
 Insertion count at (Err NoPlace) = most_own ≤ count
-Insertion count at (Err BehindTheEnd) = count < at
+Insertion count at (Err BehindTheEnd) = (count < most_own) × (count < at)
 
 -- each reach carries no more than its limit, which is one that a reach may have
 abbrev pub Bounded : List Arc → Type 0

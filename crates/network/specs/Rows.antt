@@ -1,5 +1,5 @@
 -- What rows mean.
-use Rattle.std.specs.Prelude.{◌≡◌, ℕ, ◌<◌, List, map, take, Ok, Err, Result}
+use Rattle.std.specs.Prelude.{◌≡◌, ℕ, ◌<◌, ◌≤◌, List, map, take, Ok, Err, Result}
 use Rattle.flow.specs.Bounds.{highest_limit}
 use Rattle.flow.specs.Net.{Arc}
 use Rattle.network.specs.declared.reach.Reach.{Reach}
@@ -23,8 +23,8 @@ arcs_in rows = map arc_of_row rows
 abbrev pub arcs_of : List Row → ℕ → List Arc
 arcs_of rows used = arcs_in (take used rows)
 
--- the record of a row, with the row's numbers; or a bound of records that they break
+-- the record of a row, with the row's numbers; or a bound of records that they break, the one on the carried amount first
 abbrev pub Checked : Row → Result Reach BrokenBound → Type 0
 Checked row (Ok r) = arc_in r ≡ arc_of_row row
 Checked row (Err CarriedAboveLimit) = row.limit < row.carried
-Checked row (Err LimitTooHigh) = highest_limit < row.limit
+Checked row (Err LimitTooHigh) = (row.carried ≤ row.limit) × (highest_limit < row.limit)

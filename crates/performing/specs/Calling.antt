@@ -6,7 +6,7 @@ use Rattle.refusal.specs.Checks.{Check, Judged, afterwards}
 use Rattle.flow.specs.Net.{Net, arc_at}
 use Rattle.flow.specs.Flows.{delivered}
 use Rattle.flow.specs.Bottlenecks.{marked_over}
-use Rattle.flow.specs.Histories.{after_call}
+use Rattle.flow.specs.Histories.{Event, settling, limit_change, draining, tally, bottleneck, reading, refusal, after_call}
 use Rattle.network.specs.Answers.{size_of, arc_in, reach_checks}
 use Rattle.network.specs.Touching.{Touched}
 use Rattle.network.specs.Changing.{change_checks}
@@ -48,6 +48,21 @@ abbrev pub marks_after : Call → List ℕ → Net → List ℕ
 marks_after call.Bottleneck marks g = marked_over g marks
 marks_after c marks g = marks
 
+-- an event tells a call: what was handed in, what was answered and which marks were left; of a reading, and of a refused call,
+-- no more than that it was one
+abbrev pub Tells : Call → Result Answer Refusal → List ℕ → Event → Type 0
+Tells c (Err e) written refusal = ⊤
+Tells (call.Settle b) (Ok (answer.Settled s)) written (settling budget routes told) = (budget ≡ b) × (told ≡ outcome_of s)
+Tells (call.Limit k q) (Ok a) written (limit_change j p) = (j ≡ k) × (p ≡ q)
+Tells call.Drain (Ok a) written draining = ⊤
+Tells call.Tally (Ok (answer.Tally d)) written (tally told) = told ≡ d
+Tells call.Bottleneck (Ok (answer.Bottleneck b)) written (bottleneck marks sum crossing) =
+    (marks ≡ written) × (sum ≡ b.sum) × (crossing ≡ b.crossing)
+Tells call.Size (Ok a) written reading = ⊤
+Tells (call.Reach k) (Ok a) written reading = ⊤
+Tells (call.Touch v k) (Ok a) written reading = ⊤
+Tells c r written e = ⊥
+
 -- A call on the network g, where these parts answer for its reaches, with the marks that were handed in. The first of its
 -- checks that applies refuses it, and then it leaves network and marks as they were.
 pub record Performed (g : Net) (giver : ℕ → Part) (c : Call) (given : List ℕ) (r : Result Answer Refusal)
@@ -56,6 +71,8 @@ pub record Performed (g : Net) (giver : ℕ → Part) (c : Call) (given : List �
   pub answers : Answers c g r
   pub marks : written ≡ afterwards r (marks_after c given g) given
   pub leaves : after ≡ after_call (event_by r c given g) g
+  -- its event tells it
+  pub told : Tells c r written (event_by r c given g)
 
 -- the search that comes back is the one that was handed in, but for a settling, which moves it
 abbrev pub SearchStays : {S : Type 0} → Call → S → S → Type 0

@@ -5,5 +5,6 @@ pub mod Asking
 pub mod Accounts
 pub mod Most
 pub mod Adding
+pub mod Kinds
 pub mod Setups
 pub mod Worked

@@ -1,5 +1,5 @@
 -- Going through the steps at a junction, in their order.
-use Rattle.std.specs.Prelude.{◌≡◌, ℕ, ◌-◌, ◌*◌, ◌≤◌, ◌⊎◌, ◌↔◌, List, length, Some, None, Option, ⊤}
+use Rattle.std.specs.Prelude.{◌≡◌, ℕ, ◌-◌, ◌*◌, ◌≤◌, ◌⊎◌, ◌↔◌, List, length, Some, None, Option}
 use Rattle.std.specs.Iterator.{Count, at_most}
 use Rattle.flow.specs.Net.{Arc, Net}
 use Rattle.flow.specs.Steps.{along_reach, begins, finishes}
@@ -40,9 +40,9 @@ module _ {N : Type 0} (meant : N → Net) where
   abbrev pub OpenThere : OpenSteps N → ℕ → Type 0
   OpenThere s t = OpensAt s.end (meant s.net.now).reaches s.junction t
 
-  -- what has been passed now: what had been passed before, and the step that was given
+  -- what has been passed now: what had been passed before, and the step that was given; where none was, all of them
   abbrev pub PassedNow : OpenSteps N → Option OpenStep → OpenSteps N → Type 0
-  PassedNow s None t = ⊤
+  PassedNow s None t = (u : ℕ) → OpenThere s u → GoesFirst u t.next
   PassedNow s (Some x) t = (u : ℕ) → OpenThere s u → (GoesFirst u t.next ↔ GoesFirst u s.next ⊎ (u ≡ x.number))
 
   -- the first of the steps still to come, and then those behind it

@@ -28,11 +28,12 @@ returns-clause-steps g c =
     let i = c.loop-k.invariant in
     let net = g.N.Network.meaning was.net.now in
     let touched = rw (i.net, i.junction) at c.in_default.ensures in
+    let none = none_left net.junctions net.reaches (g.N.Network.sound was.net.now).shaped.joined was.end was.junction was.next
+        c.loop-k.self.next i.passed touched in
     record {
       net = i.net;
       junction = i.junction;
       end = i.end;
-      first = none_left net.junctions net.reaches (g.N.Network.sound was.net.now).shaped.joined was.end was.junction was.next
-          c.loop-k.self.next i.passed touched;
-      passed = tt;
+      first = none;
+      passed = λ u o. omega (arith, none u o, i.onward);
     }
