@@ -29,7 +29,7 @@ returns-clause-steps g c =
     let net = g.N.Network.meaning was.net.now in
     let touched = rw (i.net, i.junction) at c.in_default.ensures in
     let none = none_left net.junctions net.reaches (g.N.Network.sound was.net.now).shaped.joined was.end was.junction was.next
-        c.loop-k.self.next i.passed touched in
+    c.loop-k.self.next i.passed touched in
     record {
       net = i.net;
       junction = i.junction;
