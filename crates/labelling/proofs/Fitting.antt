@@ -15,13 +15,6 @@ use Rattle.routes.specs.Going.{first_step, FirstFrom}
 use Rattle.labelling.specs.Scanning.{AdmissibleAt, OneAbove, NoneOpen, IsRelabel}
 use Rattle.labelling.specs.Standing.{Fits}
 
--- exact labels, where each junction's steps begin from the first
-pub fits_exact : (g : Net) (label current : ℕ → ℕ) → ExactLabels g label → ((v : ℕ) → current v ≡ first_step) → Fits g label current
-fits_exact g label current exact first = record {
-  labels = exact.labels;
-  passed = λ s a b. absurd (omega (arith, first (begins g.reaches s), b));
-}
-
 module _ (g : Net) (label current : ℕ → ℕ) (h : Fits g label current) where
   -- the first admissible step from the current one on is the new current step
   pub fits_advanced : (v : ℕ) (x : OpenStep) →

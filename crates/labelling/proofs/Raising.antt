@@ -31,16 +31,3 @@ module _ (labels : List ℕ) (v c : ℕ) (low : v < length labels) (below : get_
   pub Bounded-set : Bounded (set labels v c)
   Bounded-set u = ⊎_elim (λ (same : u ≡ v). let s = get_or-set_at labels v u c 0 same low in let n = counted in grind (arith, nat_tests))
       (λ (ne : u ≢ v). let s = get_or-set_other labels v u c 0 ne in omega (arith, counted, b u)) (cases_eq u v)
-
--- labels none of which is above the most junctions
-pub Bounded-low : (labels : List ℕ) → ((v : ℕ) → slice_index labels v ≤ most_junctions) → Bounded labels
-Bounded-low labels most v = ⊎_elim (λ (below : slice_index labels v < most_junctions). omega arith)
-    (λ (high : most_junctions ≤ slice_index labels v).
-    let inside = within high (cases_lt v (length labels)) in
-    let one = get_or-le-sum_by high_one labels v 0 inside in
-    let m = most v in
-    grind (arith, nat_tests)) (cases_lt (slice_index labels v) most_junctions)
-  where
-    within : most_junctions ≤ slice_index labels v → (v < length labels) ⊎ (length labels ≤ v) → v < length labels
-    within high (inl low) = low
-    within high (inr past) = absurd (omega (arith, get_or_past labels v 0 past))

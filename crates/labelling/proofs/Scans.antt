@@ -9,10 +9,6 @@ use Rattle.routes.specs.Ends.{OpensAt}
 use Rattle.routes.proofs.Passing.{AllPassed, more_passed, all_passed}
 use Rattle.labelling.specs.Scanning.{AdmissibleAt, IsRelabel}
 
--- an admissible step of a junction is an open one
-pub opens_from_admissible : (label : ℕ → ℕ) (rs : List Arc) (v s : ℕ) → AdmissibleAt label rs v s → OpensAt Begin rs v s
-opens_from_admissible label rs v s a = record { opens = a.admissible.opens; there = a.there }
-
 -- the least of the labels to which the steps lead that go before c; nothing where there is none of them
 abbrev pub LeastPassed : List Arc → (ℕ → ℕ) → ℕ → ℕ → Option ℕ → Type 0
 LeastPassed rs label v c None = AllPassed Begin rs v (λ u. ⊥) c
@@ -36,16 +32,3 @@ module _ (rs : List Arc) (label : ℕ → ℕ) (v c next x : ℕ) (o : OpensAt B
         (cases_lt l (far x)),
     more_passed Begin rs v (λ u. y ≤ far u) c next x now (λ u p b. omega (arith, is, h.1 u p b)) (omega (arith, is)),
   )
-
-pub least_all : (g : Net) (label : ℕ → ℕ) (v c : ℕ) → ((u : ℕ) → OpensAt Begin g.reaches v u → GoesFirst u c) →
-    (least : Option ℕ) (y : ℕ) → MatchOption least (y ≡ g.junctions) (λ l. y ≡ l + 1) →
-    LeastPassed g.reaches label v c least → IsRelabel g label v y
-least_all g label v c none None y is h =
-    inr (record { none = λ s o. all_passed Begin g.reaches v (λ u. ⊥) c none h s o; count = is })
-least_all g label v c none (Some l) y is h =
-    inl (record {
-      step = h.0.0;
-      opens = h.0.1;
-      above = is ∙ ap (λ (m : ℕ). m + 1) h.0.2;
-      least = λ s o. omega (arith, is, all_passed Begin g.reaches v (λ u. l ≤ label (finishes g.reaches u)) c none h.1 s o);
-    })

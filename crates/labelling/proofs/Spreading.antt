@@ -72,49 +72,9 @@ module _ (q : List ℕ) (u : ℕ) where
       subst (λ j. P j (get_or (q ++ u ∷ []) j 0)) (sym last) (subst (P (length q)) (sym newest) new)) (cases_lt k (length q))
 
 module _ (g : Net) (shaped : Shaped g) where
-  -- at the start the outfall alone is labelled
-  pub spread_start : (f : ℕ → ℕ) → f g.outfall ≡ 0 → ((v : ℕ) → f v ≤ g.junctions) →
-      ((v : ℕ) → v < g.junctions → v ≢ g.outfall → f v ≡ g.junctions) → Spread g f (g.outfall ∷ []) 0
-  spread_start f out most blank = record {
-    outfall = out;
-    most = most;
-    apart = λ j k b l. absurd (omega arith);
-    low = λ k l. let z = first k l in rw z shaped.outfall_in;
-    queued = λ v low less. ⊎_elim (λ (same : v ≡ g.outfall). (0, omega arith, sym same))
-        (λ (ne : v ≢ g.outfall). absurd (omega (arith, blank v low ne))) (cases_eq v g.outfall);
-    far = λ k l. let z = first k l in rw z (omega (arith, out));
-    rising = λ j k b l. let z = first k l in let y = first j (omega arith) in rw (z, y) (omega arith);
-    near = λ j k b m l. let z = first k l in let y = first j m in rw (z, y) (omega arith);
-    next = λ k l ne. let z = first k l in absurd (ne (rw z refl));
-    done = λ k s b. absurd (omega arith);
-  }
-    where
-      first : (k : ℕ) → k < length (g.outfall ∷ []) → k ≡ 0
-      first k l = omega arith
-
   module _ (f : ℕ → ℕ) (q : List ℕ) (i : ℕ) (h : Spread g f q i) where
     pub short : length q ≤ g.junctions
     short = few q g.junctions h.apart h.low
-
-    -- a junction that has been looked at
-    pub spread_on : ((s : ℕ) → OpensAt Finish g.reaches (get_or q i 0) s → f (begins g.reaches s) ≤ f (get_or q i 0) + 1) →
-        Spread g f q (i + 1)
-    spread_on here = record {
-      outfall = h.outfall;
-      most = h.most;
-      apart = h.apart;
-      low = h.low;
-      queued = h.queued;
-      far = h.far;
-      rising = h.rising;
-      near = λ j k b. h.near j k (omega arith);
-      next = h.next;
-      done = λ k s b l opens to. ⊎_elim
-          (λ (now : k ≡ i).
-          let there : finishes g.reaches s ≡ get_or q i 0 = to ∙ ap (λ j. get_or q j 0) now in
-          omega (arith, here s (record { opens = opens; there = there }), ap f there))
-          (λ (ne : k ≢ i). h.done k s (omega arith) l opens to) (cases_eq k i);
-    }
 
     -- when all have been, labels are exact
     pub spread_exact : length q ≤ i → ExactLabels g f
@@ -226,13 +186,6 @@ pub record Entering (g : Net) (f : ℕ → ℕ) (q : List ℕ) (i v above c : �
   pub passed : AllPassed Finish g.reaches v (λ t. f (begins g.reaches t) ≤ above) c
 
 module _ (g : Net) (shaped : Shaped g) (f : ℕ → ℕ) (q : List ℕ) (i v above c : ℕ) (e : Entering g f q i v above c) where
-  -- all its steps have been passed
-  pub entered : ((s : ℕ) → OpensAt Finish g.reaches v s → GoesFirst s c) → Spread g f q (i + 1)
-  entered none = spread_on g shaped f q i e.spread (λ s o.
-      let all = all_passed Finish g.reaches v (λ t. f (begins g.reaches t) ≤ above) c none e.passed s
-      (record { opens = o.opens; there = o.there ∙ e.here }) in
-      omega (arith, all, e.label, ap f e.here))
-
   -- step x, from junction u, is passed
   module _ (next x u : ℕ) (o : OpensAt Finish g.reaches v x) (from : u ≡ begins g.reaches x)
       (now : (s : ℕ) → OpensAt Finish g.reaches v s → (GoesFirst s next ↔ GoesFirst s c ⊎ (s ≡ x))) where

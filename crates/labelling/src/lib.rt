@@ -4,7 +4,6 @@
 pub mod exact;
 pub mod following;
 pub mod gaps;
-pub mod heights;
 pub mod labelling;
 pub mod moving;
 pub mod scanning;

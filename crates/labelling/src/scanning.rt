@@ -1,5 +1,4 @@
 // What is found among the open steps that begin at a junction. Nothing is changed.
-ghost use Rattle.flow.specs.Labels.{IsAdmissible};
 ghost use Rattle.routes.specs.Going.{FirstFrom};
 ghost use Rattle.labelling.specs.Keeping.{label_of, current_of};
 ghost use Rattle.labelling.specs.Scanning.{AdmissibleAt, IsRelabel};

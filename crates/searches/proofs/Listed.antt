@@ -60,9 +60,6 @@ module _ (marks : List Bool) (xs : List ℕ) (v : ℕ) (once : Once marks xs) (c
     marked_more : count_by (λ b. b) (set marks v true) ≡ count_by (λ b. b) marks + 1
     marked_more = let s = sum_by-set one marks v true false low in omega (arith, ap one new)
 
-    pub counted_more : length (xs ++ v ∷ []) ≡ count_by (λ b. b) (set marks v true)
-    counted_more = omega (arith, length-append xs (v ∷ []), marked_more, counted)
-
     pub room_more : length xs < length marks
     room_more =
         omega (arith, marked_more, counted, count_by-le-length (λ b. b) (set marks v true), length-set marks v true)
@@ -95,10 +92,3 @@ module _ (marks : List Bool) (xs : List ℕ) (v : ℕ) (once : Once marks xs) (c
         let s = sum_by-set one marks v false false (marked_in marks v last_marked) in
         let long : length xs ≡ length ys + 1 = ap length last ∙ length-append ys (v ∷ []) in
         omega (arith, ap one last_marked, counted)
-
-  -- an empty list
-  pub none_marked : xs ≡ [] → (u : ℕ) → ¬ (at_place marks u ≡ true)
-  none_marked empty u is =
-      let o : count_by (λ w. eqb w u) [] ≡ one (at_place marks u) =
-      subst (λ zs. count_by (λ w. eqb w u) zs ≡ one (at_place marks u)) empty (once u) in
-      omega (arith, ap one is)

@@ -61,14 +61,6 @@ module _ (g : Net) (x : Labelling) (v : ℕ) (Out : ℕ → Type 0)
   not_out : (u : ℕ) → u ≢ v → ¬ Out u → ¬ (Out u ⊎ (u ≡ v))
   not_out u ne not o = ⊎_elim (λ (out : Out u). not out) (λ (same : u ≡ v). ne same) o
 
-  -- a junction that needs no step
-  pub steps_without : (v ≡ g.outfall) ⊎ (g.junctions ≤ label_of x v) → KeepsSteps g (label_of x) (current_of x) Out
-  steps_without why = record {
-    has = λ u low ne less not. steps.has u low ne less (not_out u (λ same. ⊎_elim
-        (λ (out : v ≡ g.outfall). ne (same ∙ out))
-        (λ (high : g.junctions ≤ label_of x v). omega (arith, ap (label_of x) same, less)) why) not);
-  }
-
   -- its first admissible step is found
   pub steps_found : (y : Labelling) (s : OpenStep) → Advanced g.reaches x v (Some s) y →
       KeepsSteps g (label_of y) (current_of y) Out
