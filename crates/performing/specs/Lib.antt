@@ -1,3 +1,4 @@
 pub mod Events
 pub mod Calling
+pub mod Laws
 pub mod Promising

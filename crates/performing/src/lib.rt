@@ -3,6 +3,7 @@
 
 pub mod answer;
 pub mod call;
+pub mod laws;
 pub mod performing;
 
 pub use answer::Answer;
