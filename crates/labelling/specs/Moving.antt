@@ -34,10 +34,12 @@ pub record NotRaised (g : Net) (x : Labelling) (v : ℕ) (y : Labelling) : Type 
   pub relabel : IsRelabel g (label_of x) v label
   pub why : v < most_junctions → label_of x v < most_junctions → label ≤ label_of x v
 
+-- the one or the other, as a relabel answers
 abbrev pub Relabelled : Net → Labelling → ℕ → Option Unit → Labelling → Type 0
 Relabelled g x v (Some _) y = Raised g x v y
 Relabelled g x v None y = NotRaised g x v y
 
+-- what is claimed where a call answers that it did something
 abbrev pub OnSomeUnit : Option Unit → Type 0 → Type 0
 OnSomeUnit (Some _) P = P
 OnSomeUnit None P = ⊤

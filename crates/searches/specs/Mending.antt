@@ -1,5 +1,6 @@
 -- What the search DD2 keeps between questions, and how much work mending has left.
 use Rattle.std.specs.Prelude.{ℕ, ◌+◌, ◌*◌, ◌<◌, ◌≡◌, ◌≢◌, ◌⊎◌, Some, None, Option}
+use Rattle.flow.specs.Bounds.{most_junctions}
 use Rattle.flow.specs.Net.{Net}
 use Rattle.labelling.specs.Keeping.{label_of, current_of, rise_left}
 use Rattle.labelling.specs.Scanning.{AdmissibleAt}
@@ -36,6 +37,6 @@ abbrev pub Mended : Net → BegunDd2 → Option Unit → BegunDd2 → Type 0
 Mended g x (Some _) y = (InStep x g → InStep y g) × ((v : ℕ) → ¬ IsPending y.pending v)
 Mended g x None y = ¬ InStep x g
 
--- how far labels can still rise, and how many junctions are pending
+-- how far labels can still rise, and how many junctions are pending: each rise may make all junctions pending anew
 abbrev pub work_left : BegunDd2 → ℕ
-work_left x = 513 * rise_left x.kept + pending_count x.pending
+work_left x = (most_junctions + 1) * rise_left x.kept + pending_count x.pending

@@ -4,9 +4,11 @@ use Rattle.flow.specs.Bounds.{most_junctions}
 use Rattle.searches.specs.declared.pending.Pending.{Pending}
 use Rattle.searches.specs.Listing.{at_place}
 
+-- the junction is in the list
 abbrev pub IsPending : Pending → ℕ → Type 0
 IsPending p v = IsTrue (at_place p.listed v)
 
+-- how many junctions are in the list
 abbrev pub pending_count : Pending → ℕ
 pending_count p = length p.list.items
 

@@ -64,7 +64,7 @@ impl BegunDd2 {
         ensures followers { (s : ℕ) → OpensAt Finish (N.meaning net.now).reaches at s →
             current_of self.old.kept (begins (N.meaning net.now).reaches s) ≡ s →
             IsPending self.new.pending (begins (N.meaning net.now).reaches s) }
-        ensures few { pending_count self.new.pending ≤ 512 }
+        ensures few { pending_count self.new.pending ≤ most_junctions }
     {
         self.pending.add(at);
         for step in OpenSteps::entering(net, at) {

@@ -15,6 +15,7 @@ pub struct Pending {
 
 impl Pending {
     ghost use Rattle.std.specs.Prelude.{◌≤◌};
+    ghost use Rattle.flow.specs.Bounds.{most_junctions};
     ghost use Rattle.searches.specs.Waiting.{IsPending, pending_count, Added, Taken};
 
     // None.
@@ -31,7 +32,7 @@ impl Pending {
     // One more, if it is a junction.
     pub fn add(&mut self, junction: u16)
         ensures told { Added self.old junction self.new }
-        ensures few { pending_count self.new ≤ 512 }
+        ensures few { pending_count self.new ≤ most_junctions }
     {
         let place = usize::from(junction);
         if place < MOST_JUNCTIONS && !self.listed[place] {
