@@ -160,7 +160,7 @@ module _ (g : Net) (shaped : Shaped g) (x : Labelling) (ss : List ℕ) (v : ℕ)
             fits = fits_closed g shaped (label_of y v) z w closed fits;
             walking = λ less.
                 let same = closed_still w c up is closed less in
-                rw (same, is, begin) (walking_back g (label_of x) after last v c h.fits.labels up walk);
+                rw (same, is, begin.1) (walking_back g (label_of x) after last v c h.fits.labels up walk);
           }
 
       pub stands_last : (last : ℕ) (after : List ℕ) → Popped ss (Some last) after → ¬ BeginTold g.reaches last None

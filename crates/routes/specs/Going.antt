@@ -1,5 +1,5 @@
 -- Going through the steps at a junction, in their order.
-use Rattle.std.specs.Prelude.{◌≡◌, ℕ, ◌-◌, ◌*◌, ◌≤◌, ◌⊎◌, ◌↔◌, List, length, Some, None, Option}
+use Rattle.std.specs.Prelude.{◌≡◌, ℕ, ◌-◌, ◌*◌, ◌<◌, ◌≤◌, ◌⊎◌, ◌↔◌, List, length, Some, None, Option}
 use Rattle.std.specs.Iterator.{Count, at_most}
 use Rattle.flow.specs.Net.{Arc, Net}
 use Rattle.flow.specs.Steps.{along_reach, begins, finishes}
@@ -29,9 +29,9 @@ FirstFrom P rs c (Some x) =
     IsTold rs x × P x.number × ¬ GoesFirst x.number c × ((t : ℕ) → P t → GoesFirst t x.number → GoesFirst t c)
 FirstFrom P rs c None = (t : ℕ) → P t → GoesFirst t c
 
--- where a junction's step `step` of a network begins
+-- where a step begins, or nothing exactly where there is no such step
 abbrev pub BeginTold : List Arc → ℕ → Option ℕ → Type 0
-BeginTold rs s (Some v) = v ≡ begins rs s
+BeginTold rs s (Some v) = (along_reach s < length rs) × (v ≡ begins rs s)
 BeginTold rs s None = length rs ≤ along_reach s
 
 -- over any network, by what it means
