@@ -4,46 +4,65 @@ use crate::{BLANK, is_refused, sets};
 use calls::tally;
 use chambers::Chambers;
 use gathering::{Gathering, Role};
-use network::{Change, Network};
-use refusal::{Fault, Part, Refusal};
+use network::Change;
+use refusal::{Fault, Part};
+use std::process::Abort;
 use table::Table;
 
-// The layers of the example of docs/LAYERS.md, over its table.
-fn example(table: Table<'_>) -> Result<Gathering<Chambers<Table<'_>>>, Refusal> {
+// A table with these chambers over it, each a junction and its limit.
+fn chambered<'a>(
+    rt: &impl Abort,
+    table: Table<'a>,
+    entries: &[(u16, u32)],
+) -> Chambers<Table<'a>> {
     let mut chambers = Chambers::new(table);
-    for (junction, limit) in [(1, 450), (3, 400)] {
-        chambers.enter(junction, limit)?;
+    let mut refused = false;
+    for (junction, limit) in entries {
+        refused |= chambers.enter(*junction, *limit).is_err();
     }
-    let mut net = Gathering::new(chambers);
-    let entries = [
-        (Role::Source, 0, None),
-        (Role::Sink, 5, Some(380)),
-        (Role::Source, 2, Some(120)),
-    ];
-    for (role, junction, limit) in entries {
-        net.enter(role, junction, limit)?;
-    }
-    for (reach, amount) in [(7, 300), (8, 100)] {
-        net.carry(reach, amount)?;
-    }
-    Ok(net)
+    assert!(rt; !refused);
+    chambers
 }
 
+// These sources and sinks gathered over it.
+fn gathered<'a>(
+    rt: &impl Abort,
+    chambers: Chambers<Table<'a>>,
+    entries: &[(Role, u16, Option<u32>)],
+) -> Gathering<Chambers<Table<'a>>> {
+    let mut gathering = Gathering::new(chambers);
+    let mut refused = false;
+    for (role, junction, limit) in entries {
+        refused |= gathering.enter(*role, *junction, *limit).is_err();
+    }
+    assert!(rt; !refused);
+    gathering
+}
+
+// The example of docs/LAYERS.md.
 #[test]
 fn the_example_of_layers_delivers_400(rt: HostRuntime) {
     let mut rows = [BLANK; 8];
     let reaches = [(0, 1, 500), (1, 2, 300), (1, 3, 250), (2, 3, 300), (3, 1, 40)];
     let table = laid(&rt, &mut rows, 4, &reaches);
-    assert!(rt; matches!(example(table), Ok(net) if tally(&net) == 400));
+    let chambers = chambered(&rt, table, &[(1, 450), (3, 400)]);
+    let entries = [
+        (Role::Source, 0, None),
+        (Role::Sink, 5, Some(380)),
+        (Role::Source, 2, Some(120)),
+    ];
+    let mut net = gathered(&rt, chambers, &entries);
+    let amounts = [(7, Change::Carry(300), None), (8, Change::Carry(100), None)];
+    sets(&rt, &mut net, Part::Network, &amounts);
+    assert!(rt; tally(&net) == 400);
 }
 
 #[test]
 fn each_part_answers_for_its_reaches(rt: HostRuntime) {
     let mut rows = [BLANK; 1];
-    let mut chambers = Chambers::new(laid(&rt, &mut rows, 2, &[(0, 1, 7)]));
-    assert!(rt; chambers.enter(1, 7).is_ok());
-    let mut net = Gathering::new(chambers);
-    assert!(rt; net.enter(Role::Source, 0, Some(7)).is_ok());
+    let table = laid(&rt, &mut rows, 2, &[(0, 1, 7)]);
+    let chambers = chambered(&rt, table, &[(1, 7)]);
+    let mut net = gathered(&rt, chambers, &[(Role::Source, 0, Some(7))]);
     let five = [
         (0, Change::Carry(5), None),
         (1, Change::Carry(5), None),

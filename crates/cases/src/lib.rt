@@ -32,9 +32,9 @@ const BLANK: Row = Row {
 
 // Whether a library call is refused with this fault by this part, or, where no fault is named, is not refused.
 #[cfg(test)]
-fn is_refused(answer: Result<(), Refusal>, fault: Option<Fault>, part: Part) -> bool {
+fn is_refused<T: Drop>(answer: Result<T, Refusal>, fault: Option<Fault>, part: Part) -> bool {
     match (answer, fault) {
-        (Ok(()), None) => true,
+        (Ok(_), None) => true,
         (Err(refusal), Some(fault)) => refusal == Refusal::new(fault, part),
         _ => false,
     }

@@ -1,8 +1,9 @@
 // Drafts, tables, tally and draining.
+use crate::searching::laid;
 use crate::{BLANK, is_refused, sets};
 use calls::{drain, tally};
 use network::{Change, Network};
-use refusal::{Fault, Part, Refusal};
+use refusal::{Fault, Part};
 use std::process::Abort;
 use table::Draft;
 
@@ -98,33 +99,20 @@ fn limits_and_carried_amounts(rt: HostRuntime) {
 }
 
 // The example of docs/NETWORK.md.
-fn example() -> Result<i64, Refusal> {
-    let mut rows = [BLANK; 8];
-    let mut draft = Draft::new(&mut rows);
-    draft.shape(3, 0, 2)?;
-    draft.lay(0, 1, 500)?;
-    draft.lay(1, 2, 400)?;
-    let mut net = draft.commission();
-    net.carry(0, 300)?;
-    net.carry(1, 300)?;
-    let delivered = tally(&net);
-    drain(&mut net);
-    Ok(delivered)
-}
-
 #[test]
 fn the_example_delivers_300(rt: HostRuntime) {
-    assert!(rt; example() == Ok(300));
+    let mut rows = [BLANK; 8];
+    let mut net = laid(&rt, &mut rows, 3, &[(0, 1, 500), (1, 2, 400)]);
+    let amounts = [(0, Change::Carry(300), None), (1, Change::Carry(300), None)];
+    sets(&rt, &mut net, Part::Network, &amounts);
+    assert!(rt; tally(&net) == 300);
+    drain(&mut net);
 }
 
 #[test]
 fn touch_gives_the_lowest_from_k_on(rt: HostRuntime) {
     let mut rows = [BLANK; 3];
-    let mut draft = Draft::new(&mut rows);
-    shapes(&rt, &mut draft, &[(4, 0, 3, None)]);
-    lays(&rt, &mut draft, &[(0, 1, 1, None), (2, 3, 1, None), (3, 0, 1, None)]);
-    let net = draft.commission();
-    for (junction, from, lowest) in [(0, 0, Some(0)), (0, 1, Some(2)), (0, 3, None), (4, 0, None)] {
-        assert!(rt; net.touch(junction, from) == lowest);
-    }
+    let net = laid(&rt, &mut rows, 4, &[(0, 1, 1), (2, 3, 1), (3, 0, 1)]);
+    let lowest = [net.touch(0, 0), net.touch(0, 1), net.touch(0, 3), net.touch(4, 0)];
+    assert!(rt; lowest == [Some(0), Some(2), None, None]);
 }

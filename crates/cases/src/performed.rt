@@ -1,18 +1,24 @@
 // Calls of every kind, made by one function.
-use crate::BLANK;
 use crate::searching::{MAINS, laid};
+use crate::{BLANK, is_refused};
 use calls::Settled;
 use marking::Bottleneck;
 use network::{Reach, Size};
 use performing::{Answer, Call, perform};
 use refusal::{Fault, Part, Refusal};
+use routes::Search;
 use searches::{BreadthFirst, Dd1};
 use std::process::Abort;
 use table::Table;
 
-// Makes a call on a network that settles by breadth-first search.
-fn made(net: &mut Table<'_>, call: Call, marks: &mut [u8]) -> Result<Answer, Refusal> {
-    let (_, answer) = perform(net, BreadthFirst, call, marks);
+// Makes a call on a network that settles by this search.
+fn made<S: Search + Drop>(
+    net: &mut Table<'_>,
+    search: S,
+    call: Call,
+    marks: &mut [u8],
+) -> Result<Answer, Refusal> {
+    let (_, answer) = perform(net, search, call, marks);
     answer
 }
 
@@ -38,7 +44,7 @@ fn is_answer(answer: Answer, expected: Answer) -> bool {
 // Makes calls, one after another. Each is answered with what stands beside it.
 fn answers(rt: &impl Abort, net: &mut Table<'_>, calls: &[(Call, Answer)], marks: &mut [u8]) {
     for (call, expected) in calls {
-        let answered = match made(net, *call, marks) {
+        let answered = match made(net, BreadthFirst, *call, marks) {
             Ok(answer) => is_answer(answer, *expected),
             Err(_) => false,
         };
@@ -49,11 +55,8 @@ fn answers(rt: &impl Abort, net: &mut Table<'_>, calls: &[(Call, Answer)], marks
 // Makes calls, one after another. Each is refused by the network, with the fault that stands beside it.
 fn refuses(rt: &impl Abort, net: &mut Table<'_>, calls: &[(Call, Fault)], marks: &mut [u8]) {
     for (call, fault) in calls {
-        let refused = match made(net, *call, marks) {
-            Ok(_) => false,
-            Err(refusal) => refusal == Refusal::new(*fault, Part::Network),
-        };
-        assert!(rt; refused);
+        let answer = made(net, BreadthFirst, *call, marks);
+        assert!(rt; is_refused(answer, Some(*fault), Part::Network));
     }
 }
 
@@ -109,7 +112,7 @@ fn each_call_answers_for_itself(rt: HostRuntime) {
     let mut rows = [BLANK; 5];
     let mut net = laid(&rt, &mut rows, 4, &MAINS);
     let mut marks = [7; 5];
-    let (_, settled) = perform(&mut net, Dd1, Call::Settle { budget: 10 }, &mut marks);
+    let settled = made(&mut net, Dd1, Call::Settle { budget: 10 }, &mut marks);
     let expected = Settled {
         routes: 3,
         litres: 5,
@@ -138,7 +141,7 @@ fn each_call_refuses_for_itself(rt: HostRuntime) {
         (high, Fault::LimitTooHigh),
     ];
     refuses(&rt, &mut net, &dry, &mut marks);
-    let _settled = made(&mut net, Call::Settle { budget: 1 }, &mut marks);
+    let _settled = made(&mut net, BreadthFirst, Call::Settle { budget: 1 }, &mut marks);
     let low = Call::Limit { reach: 0, limit: 1 };
     refuses(&rt, &mut net, &[(low, Fault::LimitBelowCarried)], &mut marks);
     let open = (Call::Bottleneck, Fault::RouteExists);

@@ -2,7 +2,7 @@
 use crate::BLANK;
 use calls::{Settled, drain, settle, tally};
 use network::Network;
-use routes::{Begun, Search};
+use routes::{Begun, Route, Search};
 use searches::{BreadthFirst, Dd1, Dd2};
 use std::process::Abort;
 use table::{Draft, Table};
@@ -43,9 +43,9 @@ pub(crate) fn laid<'a>(
     draft.commission()
 }
 
-// Whether the begun search answers these steps.
-fn answers<B: Begun>(begun: &mut B, net: &Table<'_>, steps: &[u16]) -> bool {
-    match begun.route(net) {
+// Whether a search has answered these steps.
+fn has_steps(route: Option<Route>, steps: &[u16]) -> bool {
+    match route {
         Some(route) => route.steps() == steps,
         None => false,
     }
@@ -54,8 +54,8 @@ fn answers<B: Begun>(begun: &mut B, net: &Table<'_>, steps: &[u16]) -> bool {
 // Settles one route: whether the begun search answers these steps, asked twice, and settling then pushes a route.
 fn settles_one<S: Search>(net: &mut Table<'_>, search: S, steps: &[u16]) -> (S, bool) {
     let mut begun = search.begin(net);
-    let once = answers(&mut begun, net, steps);
-    let again = answers(&mut begun, net, steps);
+    let once = has_steps(begun.route(net), steps);
+    let again = has_steps(begun.route(net), steps);
     let (rested, settled) = settle(net, begun.end(), 1);
     (rested, once && again && settled.routes == 1)
 }
