@@ -1,21 +1,15 @@
 // Layers over a table.
 use crate::searching::laid;
-use crate::{BLANK, is_refused, sets};
-use calls::tally;
+use crate::{BLANK, delivers, is_refused, sets};
 use chambers::Chambers;
 use gathering::{Gathering, Role};
-use network::Change;
+use network::{Change, Network};
 use refusal::{Fault, Part};
 use std::process::Abort;
-use table::Table;
 
-// A table with these chambers over it, each a junction and its limit.
-fn chambered<'a>(
-    rt: &impl Abort,
-    table: Table<'a>,
-    entries: &[(u16, u32)],
-) -> Chambers<Table<'a>> {
-    let mut chambers = Chambers::new(table);
+// A network with these chambers over it, each a junction and its limit.
+fn chambered<N: Network>(rt: &impl Abort, below: N, entries: &[(u16, u32)]) -> Chambers<N> {
+    let mut chambers = Chambers::new(below);
     let mut refused = false;
     for (junction, limit) in entries {
         refused |= chambers.enter(*junction, *limit).is_err();
@@ -24,13 +18,13 @@ fn chambered<'a>(
     chambers
 }
 
-// These sources and sinks gathered over it.
-fn gathered<'a>(
+// A network with these sources and sinks gathered over it, each a junction and the limit of its feeder.
+fn gathered<N: Network>(
     rt: &impl Abort,
-    chambers: Chambers<Table<'a>>,
+    below: N,
     entries: &[(Role, u16, Option<u32>)],
-) -> Gathering<Chambers<Table<'a>>> {
-    let mut gathering = Gathering::new(chambers);
+) -> Gathering<N> {
+    let mut gathering = Gathering::new(below);
     let mut refused = false;
     for (role, junction, limit) in entries {
         refused |= gathering.enter(*role, *junction, *limit).is_err();
@@ -54,7 +48,7 @@ fn the_example_of_layers_delivers_400(rt: HostRuntime) {
     let mut net = gathered(&rt, chambers, &entries);
     let amounts = [(7, Change::Carry(300), None), (8, Change::Carry(100), None)];
     sets(&rt, &mut net, Part::Network, &amounts);
-    assert!(rt; tally(&net) == 400);
+    delivers(&rt, &net, 400);
 }
 
 #[test]

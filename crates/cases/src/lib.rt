@@ -15,6 +15,8 @@ mod readers;
 mod searching;
 
 #[cfg(test)]
+use calls::tally;
+#[cfg(test)]
 use network::{Change, Network, Row};
 #[cfg(test)]
 use refusal::{Fault, Part, Refusal};
@@ -56,4 +58,10 @@ fn sets<N: Network>(
         };
         assert!(rt; is_refused(answer, *fault, part));
     }
+}
+
+// The network delivers so much.
+#[cfg(test)]
+fn delivers<N: Network>(rt: &impl Abort, net: &N, litres: i64) {
+    assert!(rt; tally(net) == litres);
 }

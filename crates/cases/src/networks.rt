@@ -1,7 +1,7 @@
 // Drafts, tables, tally and draining.
 use crate::searching::laid;
-use crate::{BLANK, is_refused, sets};
-use calls::{drain, tally};
+use crate::{BLANK, delivers, is_refused, sets};
+use calls::drain;
 use network::{Change, Network};
 use refusal::{Fault, Part};
 use std::process::Abort;
@@ -91,11 +91,11 @@ fn limits_and_carried_amounts(rt: HostRuntime) {
         (0, Change::Carry(6), Some(Fault::AmountAboveLimit)),
     ];
     sets(&rt, &mut net, Part::Network, &cases);
-    let one = tally(&net);
+    delivers(&rt, &net, 5);
     sets(&rt, &mut net, Part::Network, &[(1, Change::Carry(20), None)]);
-    let both = tally(&net);
+    delivers(&rt, &net, -15);
     drain(&mut net);
-    assert!(rt; [one, both, tally(&net)] == [5, -15, 0]);
+    delivers(&rt, &net, 0);
 }
 
 // The example of docs/NETWORK.md.
@@ -105,7 +105,7 @@ fn the_example_delivers_300(rt: HostRuntime) {
     let mut net = laid(&rt, &mut rows, 3, &[(0, 1, 500), (1, 2, 400)]);
     let amounts = [(0, Change::Carry(300), None), (1, Change::Carry(300), None)];
     sets(&rt, &mut net, Part::Network, &amounts);
-    assert!(rt; tally(&net) == 300);
+    delivers(&rt, &net, 300);
     drain(&mut net);
 }
 

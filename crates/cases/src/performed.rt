@@ -23,7 +23,10 @@ fn made<S: Search + Drop>(
 }
 
 // Whether an answer is the expected one.
-fn is_answer(answer: Answer, expected: Answer) -> bool {
+fn is_answer(answer: Result<Answer, Refusal>, expected: Answer) -> bool {
+    let Ok(answer) = answer else {
+        return false;
+    };
     match (answer, expected) {
         (Answer::Settled(settled), Answer::Settled(wanted)) => settled == wanted,
         (Answer::Limited { reach, limit }, Answer::Limited { reach: k, limit: q }) => {
@@ -44,19 +47,21 @@ fn is_answer(answer: Answer, expected: Answer) -> bool {
 // Makes calls, one after another. Each is answered with what stands beside it.
 fn answers(rt: &impl Abort, net: &mut Table<'_>, calls: &[(Call, Answer)], marks: &mut [u8]) {
     for (call, expected) in calls {
-        let answered = match made(net, BreadthFirst, *call, marks) {
-            Ok(answer) => is_answer(answer, *expected),
-            Err(_) => false,
-        };
-        assert!(rt; answered);
+        let answer = made(net, BreadthFirst, *call, marks);
+        assert!(rt; is_answer(answer, *expected));
     }
 }
 
-// Makes calls, one after another. Each is refused by the network, with the fault that stands beside it.
-fn refuses(rt: &impl Abort, net: &mut Table<'_>, calls: &[(Call, Fault)], marks: &mut [u8]) {
+// Makes calls, one after another. Each is refused by the network with the fault that stands beside it, if one does.
+fn refuses(
+    rt: &impl Abort,
+    net: &mut Table<'_>,
+    calls: &[(Call, Option<Fault>)],
+    marks: &mut [u8],
+) {
     for (call, fault) in calls {
         let answer = made(net, BreadthFirst, *call, marks);
-        assert!(rt; is_refused(answer, Some(*fault), Part::Network));
+        assert!(rt; is_refused(answer, *fault, Part::Network));
     }
 }
 
@@ -118,7 +123,7 @@ fn each_call_answers_for_itself(rt: HostRuntime) {
         litres: 5,
         finished: true,
     };
-    assert!(rt; matches!(settled, Ok(answer) if is_answer(answer, Answer::Settled(expected))));
+    assert!(rt; is_answer(settled, Answer::Settled(expected)));
     answers(&rt, &mut net, &BEFORE, &mut marks);
     assert!(rt; marks == [7; 5]);
     answers(&rt, &mut net, &AFTER, &mut marks);
@@ -134,17 +139,19 @@ fn each_call_refuses_for_itself(rt: HostRuntime) {
         reach: 0,
         limit: 1_000_001,
     };
-    let dry = [
-        (Call::Bottleneck, Fault::NoPlace),
-        (Call::Reach { reach: 5 }, Fault::NoReach),
-        (Call::Limit { reach: 5, limit: 0 }, Fault::NoReach),
-        (high, Fault::LimitTooHigh),
+    let calls = [
+        (Call::Bottleneck, Some(Fault::NoPlace)),
+        (Call::Reach { reach: 5 }, Some(Fault::NoReach)),
+        (Call::Limit { reach: 5, limit: 0 }, Some(Fault::NoReach)),
+        (high, Some(Fault::LimitTooHigh)),
+        (Call::Settle { budget: 1 }, None),
+        (
+            Call::Limit { reach: 0, limit: 1 },
+            Some(Fault::LimitBelowCarried),
+        ),
     ];
-    refuses(&rt, &mut net, &dry, &mut marks);
-    let _settled = made(&mut net, BreadthFirst, Call::Settle { budget: 1 }, &mut marks);
-    let low = Call::Limit { reach: 0, limit: 1 };
-    refuses(&rt, &mut net, &[(low, Fault::LimitBelowCarried)], &mut marks);
-    let open = (Call::Bottleneck, Fault::RouteExists);
+    refuses(&rt, &mut net, &calls, &mut marks);
+    let open = (Call::Bottleneck, Some(Fault::RouteExists));
     refuses(&rt, &mut net, &[open], &mut [7; 4]);
     assert!(rt; marks == [7; 3]);
 }

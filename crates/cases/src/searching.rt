@@ -1,8 +1,8 @@
 // Routes, searches and settling.
-use crate::BLANK;
-use calls::{Settled, drain, settle, tally};
+use crate::{BLANK, delivers};
+use calls::{Settled, drain, settle};
 use network::Network;
-use routes::{Begun, Route, Search};
+use routes::{Begun, Search};
 use searches::{BreadthFirst, Dd1, Dd2};
 use std::process::Abort;
 use table::{Draft, Table};
@@ -43,19 +43,21 @@ pub(crate) fn laid<'a>(
     draft.commission()
 }
 
-// Whether a search has answered these steps.
-fn has_steps(route: Option<Route>, steps: &[u16]) -> bool {
-    match route {
-        Some(route) => route.steps() == steps,
-        None => false,
-    }
+// Whether the begun search answers a route, and it has these steps.
+fn answers<B: Begun>(begun: &mut B, net: &Table<'_>, steps: &[u16]) -> bool {
+    begun.route(net).is_some_and(|route| route.steps() == steps)
+}
+
+// Whether the begun search answers a route, whatever its steps are.
+fn answers_any<B: Begun>(begun: &mut B, net: &Table<'_>) -> bool {
+    begun.route(net).is_some()
 }
 
 // Settles one route: whether the begun search answers these steps, asked twice, and settling then pushes a route.
 fn settles_one<S: Search>(net: &mut Table<'_>, search: S, steps: &[u16]) -> (S, bool) {
     let mut begun = search.begin(net);
-    let once = has_steps(begun.route(net), steps);
-    let again = has_steps(begun.route(net), steps);
+    let once = answers(&mut begun, net, steps);
+    let again = answers(&mut begun, net, steps);
     let (rested, settled) = settle(net, begun.end(), 1);
     (rested, once && again && settled.routes == 1)
 }
@@ -75,9 +77,10 @@ fn settles_by<S: Search + Drop>(
         search = rested;
     }
     let mut begun = search.begin(net);
-    let none_left = begun.route(net).is_none();
+    let more = answers_any(&mut begun, net);
     let _rested = begun.end();
-    assert!(rt; none_left && tally(net) == litres);
+    assert!(rt; !more);
+    delivers(rt, net, litres);
     drain(net);
 }
 
@@ -120,8 +123,8 @@ fn a_budget_of_none_still_says_what_is_left(rt: HostRuntime) {
 fn asked_out_of_step<S: Search + Drop>(one: &Table<'_>, other: &Table<'_>, search: S) {
     let mut begun = search.begin(one);
     for _ in 0..3 {
-        let _free = begun.route(other);
-        let _free = begun.route(one);
+        let _free = answers_any(&mut begun, other);
+        let _free = answers_any(&mut begun, one);
     }
     let _rested = begun.end();
 }
