@@ -33,21 +33,32 @@ fn gathered<N: Network>(
     gathering
 }
 
-// The example of docs/LAYERS.md.
+// The reaches, the chambers, the sources and sinks, and the carried amounts of the example of docs/LAYERS.md.
+const REACHES: [(u16, u16, u32); 5] = [
+    (0, 1, 500),
+    (1, 2, 300),
+    (1, 3, 250),
+    (2, 3, 300),
+    (3, 1, 40),
+];
+
+const CHAMBERS: [(u16, u32); 2] = [(1, 450), (3, 400)];
+
+const ENTRIES: [(Role, u16, Option<u32>); 3] = [
+    (Role::Source, 0, None),
+    (Role::Sink, 5, Some(380)),
+    (Role::Source, 2, Some(120)),
+];
+
+const AMOUNTS: [(usize, Change, Option<Fault>); 2] =
+    [(7, Change::Carry(300), None), (8, Change::Carry(100), None)];
+
 #[test]
 fn the_example_of_layers_delivers_400(rt: HostRuntime) {
     let mut rows = [BLANK; 8];
-    let reaches = [(0, 1, 500), (1, 2, 300), (1, 3, 250), (2, 3, 300), (3, 1, 40)];
-    let table = laid(&rt, &mut rows, 4, &reaches);
-    let chambers = chambered(&rt, table, &[(1, 450), (3, 400)]);
-    let entries = [
-        (Role::Source, 0, None),
-        (Role::Sink, 5, Some(380)),
-        (Role::Source, 2, Some(120)),
-    ];
-    let mut net = gathered(&rt, chambers, &entries);
-    let amounts = [(7, Change::Carry(300), None), (8, Change::Carry(100), None)];
-    sets(&rt, &mut net, Part::Network, &amounts);
+    let chambers = chambered(&rt, laid(&rt, &mut rows, 4, &REACHES), &CHAMBERS);
+    let mut net = gathered(&rt, chambers, &ENTRIES);
+    sets(&rt, &mut net, Part::Network, &AMOUNTS);
     delivers(&rt, &net, 400);
 }
 

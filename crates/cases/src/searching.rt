@@ -2,7 +2,7 @@
 use crate::{BLANK, delivers};
 use calls::{Settled, drain, settle};
 use network::Network;
-use routes::{Begun, Search};
+use routes::{Begun, Route, Search};
 use searches::{BreadthFirst, Dd1, Dd2};
 use std::process::Abort;
 use table::{Draft, Table};
@@ -43,9 +43,17 @@ pub(crate) fn laid<'a>(
     draft.commission()
 }
 
+// Whether a route has these steps.
+fn has_steps(route: &Route, steps: &[u16]) -> bool {
+    route.steps() == steps
+}
+
 // Whether the begun search answers a route, and it has these steps.
 fn answers<B: Begun>(begun: &mut B, net: &Table<'_>, steps: &[u16]) -> bool {
-    begun.route(net).is_some_and(|route| route.steps() == steps)
+    match begun.route(net) {
+        Some(route) => has_steps(&route, steps),
+        None => false,
+    }
 }
 
 // Whether the begun search answers a route, whatever its steps are.
