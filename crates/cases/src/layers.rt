@@ -50,8 +50,10 @@ const ENTRIES: [(Role, u16, Option<u32>); 3] = [
     (Role::Source, 2, Some(120)),
 ];
 
-const AMOUNTS: [(usize, Change, Option<Fault>); 2] =
-    [(7, Change::Carry(300), None), (8, Change::Carry(100), None)];
+const AMOUNTS: [(usize, Change, Option<Fault>); 2] = [
+    (7, Change::Carry(300), None),
+    (8, Change::Carry(100), None),
+];
 
 #[test]
 fn the_example_of_layers_delivers_400(rt: HostRuntime) {
@@ -74,7 +76,11 @@ fn each_part_answers_for_its_reaches(rt: HostRuntime) {
         (2, Change::Carry(5), None),
     ];
     sets(&rt, &mut net, Part::Network, &five);
-    for (reach, part) in [(0, Part::Network), (1, Part::Chambers), (2, Part::Gathering)] {
+    for (reach, part) in [
+        (0, Part::Network),
+        (1, Part::Chambers),
+        (2, Part::Gathering),
+    ] {
         let low = (reach, Change::Limit(4), Some(Fault::LimitBelowCarried));
         sets(&rt, &mut net, part, &[low]);
     }

@@ -17,7 +17,13 @@ fn lays(rt: &impl Abort, draft: &mut Draft<'_>, cases: &[(u16, u16, u32, Option<
 // Sets shapes, one after another: each its junctions, intake and outfall, and the fault with which it is refused, if it is.
 fn shapes(rt: &impl Abort, draft: &mut Draft<'_>, cases: &[(u16, u16, u16, Option<Fault>)]) {
     for (junctions, intake, outfall, fault) in cases {
-        assert!(rt; is_refused(draft.shape(*junctions, *intake, *outfall), *fault, Part::Draft));
+        assert!(rt;
+            is_refused(
+                draft.shape(*junctions, *intake, *outfall),
+                *fault,
+                Part::Draft
+            )
+        );
     }
 }
 
@@ -92,7 +98,12 @@ fn limits_and_carried_amounts(rt: HostRuntime) {
     ];
     sets(&rt, &mut net, Part::Network, &cases);
     delivers(&rt, &net, 5);
-    sets(&rt, &mut net, Part::Network, &[(1, Change::Carry(20), None)]);
+    sets(
+        &rt,
+        &mut net,
+        Part::Network,
+        &[(1, Change::Carry(20), None)],
+    );
     delivers(&rt, &net, -15);
     drain(&mut net);
     delivers(&rt, &net, 0);
@@ -113,6 +124,11 @@ fn the_example_delivers_300(rt: HostRuntime) {
 fn touch_gives_the_lowest_from_k_on(rt: HostRuntime) {
     let mut rows = [BLANK; 3];
     let net = laid(&rt, &mut rows, 4, &[(0, 1, 1), (2, 3, 1), (3, 0, 1)]);
-    let lowest = [net.touch(0, 0), net.touch(0, 1), net.touch(0, 3), net.touch(4, 0)];
+    let lowest = [
+        net.touch(0, 0),
+        net.touch(0, 1),
+        net.touch(0, 3),
+        net.touch(4, 0),
+    ];
     assert!(rt; lowest == [Some(0), Some(2), None, None]);
 }

@@ -35,7 +35,9 @@ pub(crate) fn laid<'a>(
     reaches: &[(u16, u16, u32)],
 ) -> Table<'a> {
     let mut draft = Draft::new(rows);
-    let mut refused = draft.shape(junctions, 0, junctions.saturating_sub(1)).is_err();
+    let mut refused = draft
+        .shape(junctions, 0, junctions.saturating_sub(1))
+        .is_err();
     for (tail, head, limit) in reaches {
         refused |= draft.lay(*tail, *head, *limit).is_err();
     }
