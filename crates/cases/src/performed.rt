@@ -22,7 +22,7 @@ fn made<S: Search + Drop>(
     answer
 }
 
-// Whether an answer is the expected one.
+// Whether an answer is the expected one. Of a reach, the limit and the carried amount are compared.
 fn is_answer(answer: Result<Answer, Refusal>, expected: Answer) -> bool {
     let Ok(answer) = answer else {
         return false;
