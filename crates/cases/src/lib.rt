@@ -15,9 +15,13 @@ mod readers;
 mod searching;
 
 #[cfg(test)]
-use network::Row;
+use calls::tally;
+#[cfg(test)]
+use network::{Change, Network, Row};
 #[cfg(test)]
 use refusal::{Fault, Part, Refusal};
+#[cfg(test)]
+use std::process::Abort;
 
 // What the rows of a table hold before reaches are laid in them.
 #[cfg(test)]
@@ -28,8 +32,36 @@ const BLANK: Row = Row {
     carried: 9,
 };
 
-// The answer of a library call that is refused.
+// Whether a library call is refused with this fault by this part, or, where no fault is named, is not refused.
 #[cfg(test)]
-fn refused(fault: Fault, part: Part) -> Result<(), Refusal> {
-    Err(Refusal::new(fault, part))
+fn is_refused<T: Drop>(answer: Result<T, Refusal>, fault: Option<Fault>, part: Part) -> bool {
+    match (answer, fault) {
+        (Ok(_), None) => true,
+        (Err(refusal), Some(fault)) => refusal == Refusal::new(fault, part),
+        _ => false,
+    }
+}
+
+// Sets amounts and limits of reaches, one after another, by the calls for them. Each is refused with the fault that stands
+// beside it, if one does, by this part.
+#[cfg(test)]
+fn sets<N: Network>(
+    rt: &impl Abort,
+    net: &mut N,
+    part: Part,
+    cases: &[(usize, Change, Option<Fault>)],
+) {
+    for (reach, change, fault) in cases {
+        let answer = match *change {
+            Change::Carry(amount) => net.carry(*reach, amount),
+            Change::Limit(limit) => net.limit(*reach, limit),
+        };
+        assert!(rt; is_refused(answer, *fault, part));
+    }
+}
+
+// The network delivers so much.
+#[cfg(test)]
+fn delivers<N: Network>(rt: &impl Abort, net: &N, litres: i64) {
+    assert!(rt; tally(net) == litres);
 }

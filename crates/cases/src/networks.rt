@@ -1,116 +1,134 @@
 // Drafts, tables, tally and draining.
-use crate::{BLANK, refused};
-use calls::{drain, tally};
-use network::Network;
-use refusal::{Fault, Part, Refusal};
+use crate::searching::laid;
+use crate::{BLANK, delivers, is_refused, sets};
+use calls::drain;
+use network::{Change, Network};
+use refusal::{Fault, Part};
+use std::process::Abort;
 use table::Draft;
 
-fn by_draft(fault: Fault) -> Result<(), Refusal> {
-    refused(fault, Part::Draft)
+// Lays reaches, one after another: each its tail, head and limit, and the fault with which it is refused, if it is.
+fn lays(rt: &impl Abort, draft: &mut Draft<'_>, cases: &[(u16, u16, u32, Option<Fault>)]) {
+    for (tail, head, limit, fault) in cases {
+        assert!(rt; is_refused(draft.lay(*tail, *head, *limit), *fault, Part::Draft));
+    }
 }
 
-fn by_network(fault: Fault) -> Result<(), Refusal> {
-    refused(fault, Part::Network)
+// Sets shapes, one after another: each its junctions, intake and outfall, and the fault with which it is refused, if it is.
+fn shapes(rt: &impl Abort, draft: &mut Draft<'_>, cases: &[(u16, u16, u16, Option<Fault>)]) {
+    for (junctions, intake, outfall, fault) in cases {
+        assert!(rt;
+            is_refused(
+                draft.shape(*junctions, *intake, *outfall),
+                *fault,
+                Part::Draft
+            )
+        );
+    }
 }
 
 #[test]
 fn the_1024th_reach_is_the_last(rt: HostRuntime) {
     let mut rows = [BLANK; 1026];
     let mut draft = Draft::new(&mut rows);
-    for _ in 0..1024 {
-        assert!(rt; draft.lay(0, 1, 7).is_ok());
-    }
-    assert_eq!(rt; draft.lay(0, 1, 7), by_draft(Fault::NoPlace));
-    assert!(rt; rows[1023].limit == 7);
-    assert!(rt; rows[1024].limit == 9);
+    lays(&rt, &mut draft, &[(0, 1, 7, None); 1024]);
+    lays(&rt, &mut draft, &[(0, 1, 7, Some(Fault::NoPlace))]);
+    assert!(rt; rows[1023].limit == 7 && rows[1024].limit == 9);
 }
 
 #[test]
 fn a_short_table_has_fewer_places(rt: HostRuntime) {
     let mut rows = [BLANK; 3];
     let mut draft = Draft::new(&mut rows);
-    assert!(rt; draft.lay(0, 1, 1).is_ok());
-    assert!(rt; draft.lay(1, 0, 2).is_ok());
-    assert!(rt; draft.lay(0, 1, 3).is_ok());
-    assert_eq!(rt; draft.lay(0, 1, 4), by_draft(Fault::NoPlace));
+    let cases = [
+        (0, 1, 1, None),
+        (1, 0, 2, None),
+        (0, 1, 3, None),
+        (0, 1, 4, Some(Fault::NoPlace)),
+    ];
+    lays(&rt, &mut draft, &cases);
 }
 
 #[test]
 fn shapes_from_2_to_256_junctions(rt: HostRuntime) {
     let mut rows = [BLANK; 1];
     let mut draft = Draft::new(&mut rows);
-    assert_eq!(rt; draft.shape(1, 0, 0), by_draft(Fault::JunctionCount));
-    assert_eq!(rt; draft.shape(257, 0, 1), by_draft(Fault::JunctionCount));
-    assert_eq!(rt; draft.shape(2, 0, 2), by_draft(Fault::NoJunction));
-    assert_eq!(rt; draft.shape(2, 1, 1), by_draft(Fault::Same));
-    assert!(rt; draft.shape(256, 255, 0).is_ok());
-    assert!(rt; draft.shape(2, 0, 1).is_ok());
-    assert!(rt; draft.lay(0, 1, 1).is_ok());
-    assert_eq!(rt; draft.shape(2, 0, 1), by_draft(Fault::TooLate));
+    let cases = [
+        (1, 0, 0, Some(Fault::JunctionCount)),
+        (257, 0, 1, Some(Fault::JunctionCount)),
+        (2, 0, 2, Some(Fault::NoJunction)),
+        (2, 1, 1, Some(Fault::Same)),
+        (256, 255, 0, None),
+        (2, 0, 1, None),
+    ];
+    shapes(&rt, &mut draft, &cases);
+    lays(&rt, &mut draft, &[(0, 1, 1, None)]);
+    shapes(&rt, &mut draft, &[(2, 0, 1, Some(Fault::TooLate))]);
 }
 
 #[test]
 fn limits_go_up_to_a_million(rt: HostRuntime) {
     let mut rows = [BLANK; 2];
     let mut draft = Draft::new(&mut rows);
-    assert_eq!(rt; draft.lay(0, 1, 1_000_001), by_draft(Fault::LimitTooHigh));
-    assert!(rt; draft.lay(0, 1, 1_000_000).is_ok());
-    let mut net = draft.commission();
-    assert!(rt; net.limit(0, 3).is_ok());
-    assert!(rt; net.limit(0, 1_000_000).is_ok());
-    assert_eq!(rt; net.limit(0, 1_000_001), by_network(Fault::LimitTooHigh));
-    assert_eq!(rt; net.limit(1, 1_000_001), by_network(Fault::NoReach));
+    let cases = [
+        (0, 1, 1_000_001, Some(Fault::LimitTooHigh)),
+        (0, 1, 1_000_000, None),
+    ];
+    lays(&rt, &mut draft, &cases);
+    let cases = [
+        (0, Change::Limit(3), None),
+        (0, Change::Limit(1_000_000), None),
+        (0, Change::Limit(1_000_001), Some(Fault::LimitTooHigh)),
+        (1, Change::Limit(1_000_001), Some(Fault::NoReach)),
+    ];
+    sets(&rt, &mut draft.commission(), Part::Network, &cases);
 }
 
 #[test]
 fn limits_and_carried_amounts(rt: HostRuntime) {
     let mut rows = [BLANK; 2];
     let mut draft = Draft::new(&mut rows);
-    assert!(rt; draft.lay(0, 1, 8).is_ok());
-    assert!(rt; draft.lay(1, 0, 20).is_ok());
+    lays(&rt, &mut draft, &[(0, 1, 8, None), (1, 0, 20, None)]);
     let mut net = draft.commission();
-    assert!(rt; net.carry(0, 5).is_ok());
-    assert_eq!(rt; net.limit(0, 4), by_network(Fault::LimitBelowCarried));
-    assert!(rt; net.limit(0, 5).is_ok());
-    assert_eq!(rt; net.carry(0, 6), by_network(Fault::AmountAboveLimit));
-    assert_eq!(rt; tally(&net), 5);
-    assert!(rt; net.carry(1, 20).is_ok());
-    assert_eq!(rt; tally(&net), -15);
+    let cases = [
+        (0, Change::Carry(5), None),
+        (0, Change::Limit(4), Some(Fault::LimitBelowCarried)),
+        (0, Change::Limit(5), None),
+        (0, Change::Carry(6), Some(Fault::AmountAboveLimit)),
+    ];
+    sets(&rt, &mut net, Part::Network, &cases);
+    delivers(&rt, &net, 5);
+    sets(
+        &rt,
+        &mut net,
+        Part::Network,
+        &[(1, Change::Carry(20), None)],
+    );
+    delivers(&rt, &net, -15);
     drain(&mut net);
-    assert_eq!(rt; tally(&net), 0);
+    delivers(&rt, &net, 0);
 }
 
 // The example of docs/NETWORK.md.
-fn example() -> Result<i64, Refusal> {
-    let mut rows = [BLANK; 8];
-    let mut draft = Draft::new(&mut rows);
-    draft.shape(3, 0, 2)?;
-    draft.lay(0, 1, 500)?;
-    draft.lay(1, 2, 400)?;
-    let mut net = draft.commission();
-    net.carry(0, 300)?;
-    net.carry(1, 300)?;
-    let delivered = tally(&net);
-    drain(&mut net);
-    Ok(delivered)
-}
-
 #[test]
 fn the_example_delivers_300(rt: HostRuntime) {
-    assert_eq!(rt; example(), Ok(300));
+    let mut rows = [BLANK; 8];
+    let mut net = laid(&rt, &mut rows, 3, &[(0, 1, 500), (1, 2, 400)]);
+    let amounts = [(0, Change::Carry(300), None), (1, Change::Carry(300), None)];
+    sets(&rt, &mut net, Part::Network, &amounts);
+    delivers(&rt, &net, 300);
+    drain(&mut net);
 }
 
 #[test]
 fn touch_gives_the_lowest_from_k_on(rt: HostRuntime) {
     let mut rows = [BLANK; 3];
-    let mut draft = Draft::new(&mut rows);
-    assert!(rt; draft.shape(4, 0, 3).is_ok());
-    assert!(rt; draft.lay(0, 1, 1).is_ok());
-    assert!(rt; draft.lay(2, 3, 1).is_ok());
-    assert!(rt; draft.lay(3, 0, 1).is_ok());
-    let net = draft.commission();
-    assert_eq!(rt; net.touch(0, 0), Some(0));
-    assert_eq!(rt; net.touch(0, 1), Some(2));
-    assert_eq!(rt; net.touch(0, 3), None);
-    assert_eq!(rt; net.touch(4, 0), None);
+    let net = laid(&rt, &mut rows, 4, &[(0, 1, 1), (2, 3, 1), (3, 0, 1)]);
+    let lowest = [
+        net.touch(0, 0),
+        net.touch(0, 1),
+        net.touch(0, 3),
+        net.touch(4, 0),
+    ];
+    assert!(rt; lowest == [Some(0), Some(2), None, None]);
 }

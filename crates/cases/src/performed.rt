@@ -1,76 +1,133 @@
 // Calls of every kind, made by one function.
-use crate::BLANK;
 use crate::searching::{MAINS, laid};
-use network::Network;
+use crate::{BLANK, is_refused};
+use calls::Settled;
+use marking::Bottleneck;
+use network::{Reach, Size};
 use performing::{Answer, Call, perform};
 use refusal::{Fault, Part, Refusal};
+use routes::Search;
 use searches::{BreadthFirst, Dd1};
 use std::process::Abort;
+use table::Table;
 
-// Makes a call on a network that settles by breadth-first search.
-fn made<N: Network>(net: &mut N, call: Call, marks: &mut [u8]) -> Result<Answer, Refusal> {
-    let (_, answer) = perform(net, BreadthFirst, call, marks);
+// Makes a call on a network that settles by this search.
+fn made<S: Search + Drop>(
+    net: &mut Table<'_>,
+    search: S,
+    call: Call,
+    marks: &mut [u8],
+) -> Result<Answer, Refusal> {
+    let (_, answer) = perform(net, search, call, marks);
     answer
 }
 
-// It is refused with this, by the network.
-fn refuses<N: Network>(rt: &impl Abort, net: &mut N, call: Call, marks: &mut [u8], fault: Fault) {
-    match made(net, call, marks) {
-        Ok(_) => assert!(rt; false, "it is not refused"),
-        Err(refusal) => assert!(rt; refusal == Refusal::new(fault, Part::Network)),
+// Whether an answer is the expected one. Of a reach, the limit and the carried amount are compared.
+fn is_answer(answer: Result<Answer, Refusal>, expected: Answer) -> bool {
+    let Ok(answer) = answer else {
+        return false;
+    };
+    match (answer, expected) {
+        (Answer::Settled(settled), Answer::Settled(wanted)) => settled == wanted,
+        (Answer::Limited { reach, limit }, Answer::Limited { reach: k, limit: q }) => {
+            reach == k && limit == q
+        }
+        (Answer::Tally(litres), Answer::Tally(wanted)) => litres == wanted,
+        (Answer::Bottleneck(found), Answer::Bottleneck(wanted)) => found == wanted,
+        (Answer::Size(size), Answer::Size(wanted)) => size == wanted,
+        (Answer::Reach(reach), Answer::Reach(wanted)) => {
+            (reach.limit, reach.carried) == (wanted.limit, wanted.carried)
+        }
+        (Answer::Touched(reach), Answer::Touched(wanted)) => reach == wanted,
+        (Answer::Drained, Answer::Drained) => true,
+        _ => false,
     }
 }
+
+// Makes calls, one after another. Each is answered with what stands beside it.
+fn answers(rt: &impl Abort, net: &mut Table<'_>, calls: &[(Call, Answer)], marks: &mut [u8]) {
+    for (call, expected) in calls {
+        let answer = made(net, BreadthFirst, *call, marks);
+        assert!(rt; is_answer(answer, *expected));
+    }
+}
+
+// Makes calls, one after another. Each is refused by the network with the fault that stands beside it, if one does.
+fn refuses(
+    rt: &impl Abort,
+    net: &mut Table<'_>,
+    calls: &[(Call, Option<Fault>)],
+    marks: &mut [u8],
+) {
+    for (call, fault) in calls {
+        let answer = made(net, BreadthFirst, *call, marks);
+        assert!(rt; is_refused(answer, *fault, Part::Network));
+    }
+}
+
+// Calls on the two mains, settled, that write no mark.
+const BEFORE: [(Call, Answer); 5] = [
+    (Call::Tally, Answer::Tally(5)),
+    (
+        Call::Limit { reach: 4, limit: 9 },
+        Answer::Limited { reach: 4, limit: 9 },
+    ),
+    (
+        Call::Size,
+        Answer::Size(Size {
+            junctions: 4,
+            reaches: 5,
+            intake: 0,
+            outfall: 3,
+        }),
+    ),
+    (
+        Call::Reach { reach: 4 },
+        Answer::Reach(Reach {
+            tail: 2,
+            head: 3,
+            limit: 9,
+            carried: 3,
+        }),
+    ),
+    (
+        Call::Touch {
+            junction: 2,
+            from: 2,
+        },
+        Answer::Touched(Some(2)),
+    ),
+];
+
+// Calls that follow them; the first writes marks.
+const AFTER: [(Call, Answer); 3] = [
+    (
+        Call::Bottleneck,
+        Answer::Bottleneck(Bottleneck {
+            sum: 5,
+            crossing: 2,
+        }),
+    ),
+    (Call::Drain, Answer::Drained),
+    (Call::Tally, Answer::Tally(0)),
+];
 
 #[test]
 fn each_call_answers_for_itself(rt: HostRuntime) {
     let mut rows = [BLANK; 5];
     let mut net = laid(&rt, &mut rows, 4, &MAINS);
     let mut marks = [7; 5];
-    let (_, settled) = perform(&mut net, Dd1, Call::Settle { budget: 10 }, &mut marks);
-    assert!(rt;
-        matches!(settled, Ok(Answer::Settled(s)) if s.routes == 3 && s.litres == 5 && s.finished)
-    );
-    assert!(rt;
-        matches!(
-            made(&mut net, Call::Tally, &mut marks),
-            Ok(Answer::Tally(5))
-        )
-    );
-    let raised = Call::Limit { reach: 4, limit: 9 };
-    assert!(rt;
-        matches!(
-            made(&mut net, raised, &mut marks),
-            Ok(Answer::Limited { reach: 4, limit: 9 })
-        )
-    );
-    assert!(rt;
-        matches!(made(&mut net, Call::Size, &mut marks), Ok(Answer::Size(s)) if s.reaches == 5 && s.junctions == 4)
-    );
-    assert!(rt;
-        matches!(made(&mut net, Call::Reach { reach: 4 }, &mut marks), Ok(Answer::Reach(r)) if r.limit == 9 && r.carried == 3)
-    );
-    let touch = Call::Touch {
-        junction: 2,
-        from: 2,
+    let settled = made(&mut net, Dd1, Call::Settle { budget: 10 }, &mut marks);
+    let expected = Settled {
+        routes: 3,
+        litres: 5,
+        finished: true,
     };
-    assert!(rt;
-        matches!(
-            made(&mut net, touch, &mut marks),
-            Ok(Answer::Touched(Some(2)))
-        )
-    );
-    assert_eq!(rt; marks, [7; 5]);
-    assert!(rt;
-        matches!(made(&mut net, Call::Bottleneck, &mut marks), Ok(Answer::Bottleneck(b)) if b.sum == 5 && b.crossing == 2)
-    );
-    assert_eq!(rt; marks, [1, 0, 0, 0, 7]);
-    assert!(rt; matches!(made(&mut net, Call::Drain, &mut marks), Ok(Answer::Drained)));
-    assert!(rt;
-        matches!(
-            made(&mut net, Call::Tally, &mut marks),
-            Ok(Answer::Tally(0))
-        )
-    );
+    assert!(rt; is_answer(settled, Answer::Settled(expected)));
+    answers(&rt, &mut net, &BEFORE, &mut marks);
+    assert!(rt; marks == [7; 5]);
+    answers(&rt, &mut net, &AFTER, &mut marks);
+    assert!(rt; marks == [1, 0, 0, 0, 7]);
 }
 
 #[test]
@@ -78,30 +135,23 @@ fn each_call_refuses_for_itself(rt: HostRuntime) {
     let mut rows = [BLANK; 5];
     let mut net = laid(&rt, &mut rows, 4, &MAINS);
     let mut marks = [7; 3];
-    refuses(&rt, &mut net, Call::Bottleneck, &mut marks, Fault::NoPlace);
-    refuses(
-        &rt,
-        &mut net,
-        Call::Reach { reach: 5 },
-        &mut marks,
-        Fault::NoReach,
-    );
-    let past = Call::Limit { reach: 5, limit: 0 };
-    refuses(&rt, &mut net, past, &mut marks, Fault::NoReach);
     let high = Call::Limit {
         reach: 0,
         limit: 1_000_001,
     };
-    refuses(&rt, &mut net, high, &mut marks, Fault::LimitTooHigh);
-    let _settled = made(&mut net, Call::Settle { budget: 1 }, &mut marks);
-    let low = Call::Limit { reach: 0, limit: 1 };
-    refuses(&rt, &mut net, low, &mut marks, Fault::LimitBelowCarried);
-    refuses(
-        &rt,
-        &mut net,
-        Call::Bottleneck,
-        &mut [7; 4],
-        Fault::RouteExists,
-    );
-    assert_eq!(rt; marks, [7; 3]);
+    let calls = [
+        (Call::Bottleneck, Some(Fault::NoPlace)),
+        (Call::Reach { reach: 5 }, Some(Fault::NoReach)),
+        (Call::Limit { reach: 5, limit: 0 }, Some(Fault::NoReach)),
+        (high, Some(Fault::LimitTooHigh)),
+        (Call::Settle { budget: 1 }, None),
+        (
+            Call::Limit { reach: 0, limit: 1 },
+            Some(Fault::LimitBelowCarried),
+        ),
+    ];
+    refuses(&rt, &mut net, &calls, &mut marks);
+    let open = (Call::Bottleneck, Some(Fault::RouteExists));
+    refuses(&rt, &mut net, &[open], &mut [7; 4]);
+    assert!(rt; marks == [7; 3]);
 }

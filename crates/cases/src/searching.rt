@@ -1,8 +1,8 @@
 // Routes, searches and settling.
-use crate::BLANK;
-use calls::{Settled, drain, settle, tally};
+use crate::{BLANK, delivers};
+use calls::{Settled, drain, settle};
 use network::Network;
-use routes::{Begun, Search};
+use routes::{Begun, Route, Search};
 use searches::{BreadthFirst, Dd1, Dd2};
 use std::process::Abort;
 use table::{Draft, Table};
@@ -35,41 +35,63 @@ pub(crate) fn laid<'a>(
     reaches: &[(u16, u16, u32)],
 ) -> Table<'a> {
     let mut draft = Draft::new(rows);
-    assert!(rt;
-        draft
-            .shape(junctions, 0, junctions.saturating_sub(1))
-            .is_ok()
-    );
+    let mut refused = draft
+        .shape(junctions, 0, junctions.saturating_sub(1))
+        .is_err();
     for (tail, head, limit) in reaches {
-        assert!(rt; draft.lay(*tail, *head, *limit).is_ok());
+        refused |= draft.lay(*tail, *head, *limit).is_err();
     }
+    assert!(rt; !refused);
     draft.commission()
 }
 
-// Settles one route at a time: each time the begun search answers these steps, asked twice, and settling pushes them.
-fn routes_are<S: Search + Drop, A: Abort>(
-    rt: &A,
+// Whether a route has these steps.
+fn has_steps(route: &Route, steps: &[u16]) -> bool {
+    route.steps() == steps
+}
+
+// Whether the begun search answers a route, and it has these steps.
+fn answers<B: Begun>(begun: &mut B, net: &Table<'_>, steps: &[u16]) -> bool {
+    match begun.route(net) {
+        Some(route) => has_steps(&route, steps),
+        None => false,
+    }
+}
+
+// Whether the begun search answers a route, whatever its steps are.
+fn answers_any<B: Begun>(begun: &mut B, net: &Table<'_>) -> bool {
+    begun.route(net).is_some()
+}
+
+// Settles one route: whether the begun search answers these steps, asked twice, and settling then pushes a route.
+fn settles_one<S: Search>(net: &mut Table<'_>, search: S, steps: &[u16]) -> (S, bool) {
+    let mut begun = search.begin(net);
+    let once = answers(&mut begun, net, steps);
+    let again = answers(&mut begun, net, steps);
+    let (rested, settled) = settle(net, begun.end(), 1);
+    (rested, once && again && settled.routes == 1)
+}
+
+// Settles a network one route at a time by these routes, and no more; then it delivers so much. Drains it.
+fn settles_by<S: Search + Drop>(
+    rt: &impl Abort,
     net: &mut Table<'_>,
     search: S,
     routes: &[&[u16]],
+    litres: i64,
 ) {
     let mut search = search;
     for steps in routes {
-        let mut begun = search.begin(net);
-        for _ in 0..2 {
-            let Some(route) = begun.route(net) else {
-                assert!(rt; false, "a route is missing");
-                continue;
-            };
-            assert!(rt; route.steps() == *steps);
-        }
-        let (rested, settled) = settle(net, begun.end(), 1);
-        assert!(rt; settled.routes == 1);
+        let (rested, settled) = settles_one(net, search, steps);
+        assert!(rt; settled);
         search = rested;
     }
     let mut begun = search.begin(net);
-    assert!(rt; begun.route(net).is_none());
+    let more = answers_any(&mut begun, net);
     let _rested = begun.end();
+    assert!(rt; !more);
+    delivers(rt, net, litres);
+    drain(net);
 }
 
 #[test]
@@ -77,14 +99,9 @@ fn two_mains_take_three_routes(rt: HostRuntime) {
     let mut rows = [BLANK; 5];
     let mut net = laid(&rt, &mut rows, 4, &MAINS);
     let routes: [&[u16]; 3] = [&[0, 6], &[2, 8], &[0, 4, 8]];
-    routes_are(&rt, &mut net, BreadthFirst, &routes);
-    assert_eq!(rt; tally(&net), 5);
-    drain(&mut net);
-    routes_are(&rt, &mut net, Dd1, &routes);
-    assert_eq!(rt; tally(&net), 5);
-    drain(&mut net);
-    routes_are(&rt, &mut net, Dd2, &routes);
-    assert_eq!(rt; tally(&net), 5);
+    settles_by(&rt, &mut net, BreadthFirst, &routes, 5);
+    settles_by(&rt, &mut net, Dd1, &routes, 5);
+    settles_by(&rt, &mut net, Dd2, &routes, 5);
 }
 
 #[test]
@@ -92,53 +109,32 @@ fn a_route_goes_back_along_a_reach(rt: HostRuntime) {
     let mut rows = [BLANK; 7];
     let mut net = laid(&rt, &mut rows, 6, &CROSSED);
     let routes: [&[u16]; 2] = [&[0, 2, 4], &[10, 12, 3, 6, 8]];
-    routes_are(&rt, &mut net, BreadthFirst, &routes);
-    drain(&mut net);
-    routes_are(&rt, &mut net, Dd1, &routes);
-    drain(&mut net);
-    routes_are(&rt, &mut net, Dd2, &routes);
-    assert_eq!(rt; tally(&net), 2);
+    settles_by(&rt, &mut net, BreadthFirst, &routes, 2);
+    settles_by(&rt, &mut net, Dd1, &routes, 2);
+    settles_by(&rt, &mut net, Dd2, &routes, 2);
 }
 
 #[test]
 fn a_budget_of_none_still_says_what_is_left(rt: HostRuntime) {
     let mut rows = [BLANK; 5];
     let mut net = laid(&rt, &mut rows, 4, &MAINS);
-    let (_, none) = settle(&mut net, Dd2, 0);
-    assert_eq!(rt;
-        none,
-        Settled {
-            routes: 0,
-            litres: 0,
-            finished: false
-        }
-    );
-    let (_, all) = settle(&mut net, Dd2, 3);
-    assert_eq!(rt;
-        all,
-        Settled {
-            routes: 3,
-            litres: 5,
-            finished: true
-        }
-    );
-    let (_, over) = settle(&mut net, Dd2, 0);
-    assert_eq!(rt;
-        over,
-        Settled {
-            routes: 0,
-            litres: 0,
-            finished: true
-        }
-    );
+    for (budget, litres, finished) in [(0, 0, false), (3, 5, true), (0, 0, true)] {
+        let (_, settled) = settle(&mut net, Dd2, budget);
+        let expected = Settled {
+            routes: budget,
+            litres,
+            finished,
+        };
+        assert!(rt; settled == expected);
+    }
 }
 
 // Asks a search that was begun over another network; what it answers is free, but it ends.
 fn asked_out_of_step<S: Search + Drop>(one: &Table<'_>, other: &Table<'_>, search: S) {
     let mut begun = search.begin(one);
     for _ in 0..3 {
-        let _free = begun.route(other);
-        let _free = begun.route(one);
+        let _free = answers_any(&mut begun, other);
+        let _free = answers_any(&mut begun, one);
     }
     let _rested = begun.end();
 }
