@@ -3,30 +3,39 @@
 // by another search, a line says so.
 #![tactic(auto)]
 
-ghost use Rattle.std.specs.Prelude.{◌<◌, IfOk};
+ghost use Rattle.std.specs.Prelude.{◌<◌, IfSome};
 
-use anyhow::anyhow;
+use anyhow::Context;
 use network::Row;
 use report::{Report, open};
 use routes::Search;
 use searches::{BreadthFirst, Dd1, Dd2};
-use std::alloc::Global;
+use std::alloc::{AllocError, Global};
 use std::fmt::Write as FmtWrite;
-use std::io::{BufRead, BufReader, BufWriter, Write};
+use std::io;
+use std::io::{BufWriter, Write};
 
 // How many rows a table has.
 const ROWS: usize = 1024;
 
 // The value of a hexadecimal digit. (Crate hex takes capitals too, which are none here, so that a check of them would
 // stand beside it.)
-fn digit(b: u8) -> anyhow::Result<u8>
-    ensures { IfOk result (λ d. d < 16) }
+fn digit(b: u8) -> Option<u8>
+    ensures { IfSome result (λ d. d < 16) }
 {
     match b {
-        b'0'..=b'9' => Ok(b - b'0'),
-        b'a'..=b'f' => Ok(b - b'a' + 10),
-        _ => Err(anyhow!("not a hexadecimal digit")),
+        b'0'..=b'9' => Some(b - b'0'),
+        b'a'..=b'f' => Some(b - b'a' + 10),
+        _ => None,
     }
+}
+
+// The byte that two hexadecimal digits spell.
+fn byte(pair: &[u8]) -> Option<u8> {
+    let [high, low] = pair else {
+        return None;
+    };
+    Some(digit(*high)? * 16 + digit(*low)?)
 }
 
 // The bytes that hexadecimal digits spell.
@@ -34,12 +43,7 @@ fn bytes(heap: Global, digits: &str) -> anyhow::Result<Vec<u8>> {
     let mut bytes = Vec::new(heap);
     if digits != "-" {
         for pair in digits.as_bytes().chunks(2) {
-            let [high, low] = pair else {
-                return Err(anyhow!("an odd number of digits"));
-            };
-            let high = digit(*high)?;
-            let low = digit(*low)?;
-            bytes.push(high * 16 + low)?;
+            bytes.push(byte(pair).context("not two hexadecimal digits")?)?;
         }
     }
     Ok(bytes)
@@ -50,7 +54,7 @@ fn lines<S: Search + Default + Drop>(
     heap: Global,
     drawing: &[u8],
     search: S,
-) -> anyhow::Result<String> {
+) -> Result<String, AllocError> {
     let mut rows = [Row::default(); ROWS];
     let mut text = String::new(heap);
     match open(drawing, &mut rows, search) {
@@ -64,23 +68,38 @@ fn lines<S: Search + Default + Drop>(
     Ok(text)
 }
 
-fn main(rt: HostRuntime) -> anyhow::Result<()> {
-    let mut out = BufWriter::new(rt.alloc(), rt.stdout())?;
-    for line in BufReader::new(rt.alloc(), rt.stdin())?.lines(rt.alloc()) {
-        let line = line?;
-        let Some((name, digits)) = line.as_str().split_once(' ') else {
-            return Err(anyhow!("no space in a line"));
-        };
-        let drawing = bytes(rt.alloc(), digits)?;
-        let report = Report(drawing.as_slice());
-        write!(out, "drawing {name}\n{report}")?;
-        let by_dd1 = lines(rt.alloc(), drawing.as_slice(), Dd1)?;
-        let by_dd2 = lines(rt.alloc(), drawing.as_slice(), Dd2)?;
-        let by_breadth = lines(rt.alloc(), drawing.as_slice(), BreadthFirst)?;
-        if by_dd2.as_str() != by_dd1.as_str() || by_breadth.as_str() != by_dd1.as_str() {
-            writeln!(out, "another search, another report")?;
-        }
+// Whether a drawing has the same lines by each search.
+fn same_lines(heap: Global, drawing: &[u8]) -> Result<bool, AllocError> {
+    let by_dd1 = lines(heap, drawing, Dd1)?;
+    let by_dd2 = lines(heap, drawing, Dd2)?;
+    let by_breadth = lines(heap, drawing, BreadthFirst)?;
+    Ok(by_dd2.as_str() == by_dd1.as_str() && by_breadth.as_str() == by_dd1.as_str())
+}
+
+// Prints what one line of the input asks for.
+fn answer<W: Write>(heap: Global, line: &str, out: &mut W) -> anyhow::Result<()> {
+    let (name, digits) = line.split_once(' ').context("no space in a line")?;
+    let drawing = bytes(heap, digits)?;
+    let report = Report(drawing.as_slice());
+    write!(out, "drawing {name}\n{report}")?;
+    if !same_lines(heap, drawing.as_slice())? {
+        writeln!(out, "another search, another report")?;
     }
+    Ok(())
+}
+
+// Prints what each line of the input asks for.
+fn answer_all<W: Write>(heap: Global, input: &str, out: &mut W) -> anyhow::Result<()> {
+    for line in input.lines() {
+        answer(heap, line, out)?;
+    }
+    Ok(())
+}
+
+fn main(rt: HostRuntime) -> anyhow::Result<()> {
+    let input = io::read_to_string(rt.alloc(), rt.stdin())?;
+    let mut out = BufWriter::new(rt.alloc(), rt.stdout())?;
+    answer_all(rt.alloc(), input.as_str(), &mut out)?;
     out.flush()?;
     Ok(())
 }

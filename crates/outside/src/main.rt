@@ -4,33 +4,36 @@
 // tools/beside/make_stored made the same lines by solvers made elsewhere and a reading that shares no code with this.
 #![tactic(auto)]
 
-use anyhow::anyhow;
+use anyhow::Context;
 use desk::Line;
 use network::Row;
 use report::open;
 use routes::Search;
 use searches::{BreadthFirst, Dd1, Dd2};
-use std::alloc::Global;
+use std::alloc::{AllocError, Global};
 use std::fmt::Write as FmtWrite;
-use std::io::{BufRead, BufReader, BufWriter, Write};
+use std::io;
+use std::io::{BufWriter, Write};
 
 // How many rows a table has.
 const ROWS: usize = 1024;
 
+// Writes the figures of a settling behind a text.
+fn tell_settled(text: &mut String, litres: u64, finished: bool) -> Result<(), AllocError> {
+    let word = if finished { "yes" } else { "no" };
+    writeln!(text, "settled {litres} {word}")
+}
+
 // Writes the figures of one line behind a text.
-fn tell(text: &mut String, line: Line<'_>) -> anyhow::Result<()> {
+fn tell(text: &mut String, line: Line<'_>) -> Result<(), AllocError> {
     match line {
         Line::Settled {
             litres,
             finished,
             ..
-        } => {
-            let word = if finished { "yes" } else { "no" };
-            writeln!(text, "settled {litres} {word}")?;
-        }
-        _ => writeln!(text, "{line}")?,
+        } => tell_settled(text, litres, finished),
+        _ => writeln!(text, "{line}"),
     }
-    Ok(())
 }
 
 // The figures of a drawing that is settled by this search.
@@ -38,7 +41,7 @@ fn figures<S: Search + Default + Drop>(
     heap: Global,
     drawing: &[u8],
     search: S,
-) -> anyhow::Result<String> {
+) -> Result<String, AllocError> {
     let mut rows = [Row::default(); ROWS];
     let mut text = String::new(heap);
     match open(drawing, &mut rows, search) {
@@ -52,23 +55,39 @@ fn figures<S: Search + Default + Drop>(
     Ok(text)
 }
 
-fn main(rt: HostRuntime) -> anyhow::Result<()> {
-    let mut out = BufWriter::new(rt.alloc(), rt.stdout())?;
-    for line in BufReader::new(rt.alloc(), rt.stdin())?.lines(rt.alloc()) {
-        let line = line?;
-        let Some((name, digits)) = line.as_str().split_once(' ') else {
-            return Err(anyhow!("no space in a line"));
-        };
-        let digits = if digits == "-" { "" } else { digits };
-        let drawing = hex::decode(rt.alloc(), digits)?;
-        let by_dd1 = figures(rt.alloc(), drawing.as_slice(), Dd1)?;
-        let by_dd2 = figures(rt.alloc(), drawing.as_slice(), Dd2)?;
-        let by_breadth = figures(rt.alloc(), drawing.as_slice(), BreadthFirst)?;
-        write!(out, "drawing {name}\n{by_dd1}")?;
-        if by_dd2.as_str() != by_dd1.as_str() || by_breadth.as_str() != by_dd1.as_str() {
-            writeln!(out, "another search, other figures")?;
-        }
+// Prints the figures of a drawing, and a line where another search leads to others.
+fn compare<W: Write>(heap: Global, drawing: &[u8], out: &mut W) -> anyhow::Result<()> {
+    let by_dd1 = figures(heap, drawing, Dd1)?;
+    let by_dd2 = figures(heap, drawing, Dd2)?;
+    let by_breadth = figures(heap, drawing, BreadthFirst)?;
+    write!(out, "{by_dd1}")?;
+    if by_dd2.as_str() != by_dd1.as_str() || by_breadth.as_str() != by_dd1.as_str() {
+        writeln!(out, "another search, other figures")?;
     }
+    Ok(())
+}
+
+// Prints what one line of the input asks for.
+fn answer<W: Write>(heap: Global, line: &str, out: &mut W) -> anyhow::Result<()> {
+    let (name, digits) = line.split_once(' ').context("no space in a line")?;
+    let digits = if digits == "-" { "" } else { digits };
+    let drawing = hex::decode(heap, digits)?;
+    writeln!(out, "drawing {name}")?;
+    compare(heap, drawing.as_slice(), out)
+}
+
+// Prints what each line of the input asks for.
+fn answer_all<W: Write>(heap: Global, input: &str, out: &mut W) -> anyhow::Result<()> {
+    for line in input.lines() {
+        answer(heap, line, out)?;
+    }
+    Ok(())
+}
+
+fn main(rt: HostRuntime) -> anyhow::Result<()> {
+    let input = io::read_to_string(rt.alloc(), rt.stdin())?;
+    let mut out = BufWriter::new(rt.alloc(), rt.stdout())?;
+    answer_all(rt.alloc(), input.as_str(), &mut out)?;
     out.flush()?;
     Ok(())
 }
