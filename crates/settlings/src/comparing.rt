@@ -11,8 +11,10 @@ fn is_same_reach(one: Reach, other: Reach) -> bool {
 
 // Whether two networks are the same: their sizes, and every reach with what it carries.
 pub fn are_same_networks<N: Network>(one: &N, other: &N) -> bool {
+    for (a, b) in Reaches::of(one).zip(Reaches::of(other)) {
+        if !is_same_reach(a, b) {
+            return false;
+        }
+    }
     one.size() == other.size()
-        && Reaches::of(one)
-            .zip(Reaches::of(other))
-            .all(|(a, b)| is_same_reach(a, b))
 }

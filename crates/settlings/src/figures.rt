@@ -63,8 +63,8 @@ impl fmt::Display for Figures {
     fn fmt<W: fmt::Write>(&self, f: &mut fmt::Formatter<W>) -> fmt::Result {
         write!(
             f,
-            "{} {} {}, bottleneck {} {} {}",
-            self.routes, self.litres, self.checksum, self.cut.sum, self.cut.crossing, self.cuts,
+            "{} {} {:016x}, bottleneck {} {} {:016x}",
+            self.routes, self.litres, self.checksum.0, self.cut.sum, self.cut.crossing, self.cuts.0,
         )
     }
 }
