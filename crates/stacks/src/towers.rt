@@ -13,14 +13,16 @@ use table::{Draft, Table};
 // Puts a layer over a network, with as many entries as it may have.
 fn full_layer<N: Network, L: Layer<N>>(net: N) -> L {
     let mut layer = L::over(net);
-    layer.fill();
+    for number in 0..32 {
+        let _ = layer.enter_one(number);
+    }
     layer
 }
 
 // Puts a layer over a network, tries one entry, and prints the size.
 fn show_one<N: Network, L: Layer<N>>(out: &mut Out, net: N) -> L {
     let mut layer = L::over(net);
-    layer.show_one_entry(out);
+    layer.enter_one(0).write(out);
     show_size(out, &layer);
     layer
 }
