@@ -98,8 +98,9 @@ pub fn lay_drawn(plan: &mut Plan<'_>, form: Form) {
 pub fn carry_some(table: &mut Table<'_>, dice: &mut Dice) {
     for k in 0..table.size().reaches {
         if dice.one_in(2) {
-            let most = table.reach(k).map_or(0, |reach| reach.limit);
-            let _ = table.carry(k, dice.up_to(most));
+            if let Ok(reach) = table.reach(k) {
+                let _ = table.carry(k, dice.up_to(reach.limit));
+            }
         }
     }
 }

@@ -159,8 +159,13 @@ pub fn lay_crossed(plan: &mut Plan<'_>, scale: Scale) {
     plan.shape(last.saturating_add(1), 0, last);
     for group in 0..count {
         let first = group.saturating_mul(7);
-        for (tail, head) in GROUP {
-            plan.lay_between(first.saturating_add(tail), first.saturating_add(head), 4, 8);
+        for (tail, head) in &GROUP {
+            plan.lay_between(
+                first.saturating_add(*tail),
+                first.saturating_add(*head),
+                4,
+                8,
+            );
         }
     }
     for _ in 0..count.saturating_mul(4) {

@@ -37,13 +37,12 @@ impl Stepped {
 
     // Asks for a route, and where it is to be asked twice, again without pushing the route: it has to be the same.
     fn ask<N: Network>(&mut self, three: &mut Three, net: &N, asking: Asking) -> Option<Route> {
-        let asked = three.ask(net);
-        self.same &= asked.same;
+        let route = three.ask(net, &mut self.same);
         if matches!(asking, Asking::Twice) {
-            let again = three.ask(net);
-            self.same &= again.same && are_same(&asked.route, &again.route);
+            let again = three.ask(net, &mut self.same);
+            self.same &= are_same(&route, &again);
         }
-        asked.route
+        route
     }
 
     // Pushes a route, and counts it. A route has room for at least one litre.

@@ -101,20 +101,12 @@ pub fn try_network(number: u32, rows: &mut CopyRows) -> Trial {
 // The number, the kind, the junctions and the reaches; the figures; and whether all that was compared is the same.
 impl fmt::Display for Trial {
     fn fmt<W: fmt::Write>(&self, f: &mut fmt::Formatter<W>) -> fmt::Result {
-        let Size {
-            junctions,
-            reaches,
-            ..
-        } = self.size;
+        let junctions = self.size.junctions;
+        let reaches = self.size.reaches;
         let is_same = self.settled.same && self.drained.same;
-        write!(
-            f,
-            "{} {} {junctions} {reaches}: {}, drained {}, {}",
-            self.number,
-            self.form.word,
-            self.settled,
-            self.drained,
-            if is_same { "same" } else { "DIFFERENT" },
-        )
+        write!(f, "{} {} ", self.number, self.form.word)?;
+        write!(f, "{junctions} {reaches}: {}", self.settled)?;
+        let same = if is_same { "same" } else { "DIFFERENT" };
+        write!(f, ", drained {}, {same}", self.drained)
     }
 }
