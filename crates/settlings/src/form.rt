@@ -1,4 +1,5 @@
 // What each network looks like, by its number.
+
 // How large a network is.
 #[derive(Clone, Copy)]
 pub enum Scale {

@@ -156,15 +156,17 @@ fn limit<N: Network>(net: &mut N, k: usize, q: u32) -> Called {
     }
 }
 
-// Lets a reach of a layer carry 0 or 1, tries an entry, and lets the reach carry nothing.
-fn draw_while_carrying<N, L: Layer<N>>(session: &mut Session<'_>, layer: &mut L, n: u16, m: usize)
-    requires { 0 < m }
-{
-    let k = session.dice.below(m);
-    let amount = session.dice.below(2) as u32;
-    carry(layer, k, amount).write(session.out);
-    layer.enter_drawn(&mut session.dice, n).write(session.out);
-    carry(layer, k, 0).write(session.out);
+// Lets a reach of a layer carry 0 or 1, draws an entry, and lets the reach carry nothing; does none of it where there is no
+// reach.
+fn draw_while_carrying<N, L: Layer<N>>(session: &mut Session<'_>, layer: &mut L, n: u16) {
+    let m = layer.size().reaches;
+    if m > 0 {
+        let k = session.dice.below(m);
+        let amount = session.dice.below(2) as u32;
+        carry(layer, k, amount).write(session.out);
+        layer.enter_drawn(&mut session.dice, n).write(session.out);
+        carry(layer, k, 0).write(session.out);
+    }
 }
 
 // Puts a layer over a network: draws fewer than `most` entries, and where there is a reach one more while it may carry.
@@ -176,10 +178,7 @@ pub fn draw_layer<N: Network, L: Layer<N>>(session: &mut Session<'_>, net: N, mo
     for _ in 0..session.dice.below(most) {
         layer.enter_drawn(&mut session.dice, n).write(session.out);
     }
-    let m = layer.size().reaches;
-    if m > 0 {
-        draw_while_carrying(session, &mut layer, n, m);
-    }
+    draw_while_carrying(session, &mut layer, n);
     layer
 }
 

@@ -1,6 +1,4 @@
 // Two towers of full layers, which come to as many junctions and to as many reaches as a network may have.
-ghost use Rattle.std.specs.Prelude.{◌≤◌};
-
 use crate::drawn::Layer;
 use crate::lines::write_line;
 use crate::out::Out;
@@ -93,14 +91,13 @@ impl Above for NoReachLeft {
 }
 
 // A table with a reach in every row, all of them from the first junction, its intake, to the last, its outfall.
-fn full_table(rows: &mut [Row], n: u16, limit: u32) -> Table<'_>
-    requires { 1 ≤ n }
-{
+fn full_table(rows: &mut [Row], n: u16, limit: u32) -> Table<'_> {
     let count = rows.len();
+    let last = n.saturating_sub(1);
     let mut draft = Draft::new(rows);
-    let _ = draft.shape(n, 0, n - 1);
+    let _ = draft.shape(n, 0, last);
     for _ in 0..count {
-        let _ = draft.lay(0, n - 1, limit);
+        let _ = draft.lay(0, last, limit);
     }
     draft.commission()
 }
