@@ -2,8 +2,8 @@
 ghost use Rattle.std.specs.Prelude.{◌<◌, ◌≤◌};
 
 use crate::dice::Dice;
-use crate::lines::Called;
 use crate::out::Out;
+use crate::showing::{show_chamber, show_change, show_feeder};
 use chambers::Chambers;
 use gathering::{Gathering, Role};
 use network::{Change, Network, Row};
@@ -52,44 +52,19 @@ pub fn draw_table<'a>(dice: &mut Dice, rows: &'a mut [Row]) -> Table<'a> {
     draft.commission()
 }
 
-// Enters a chamber.
-fn enter_chamber<N: Network>(layer: &mut Chambers<N>, v: u16, q: u32) -> Called {
-    Called {
-        word: "chamber",
-        number: usize::from(v),
-        stated: Some(q),
-        answer: layer.enter(v, q),
-    }
-}
-
-// Enters a source or a sink. (The word for a role is of this program; the library prints none.)
-fn enter_feeder<N: Network>(
-    layer: &mut Gathering<N>,
-    role: Role,
-    v: u16,
-    stated: Option<u32>,
-) -> Called {
-    Called {
-        word: match role {
-            Role::Source => "source",
-            Role::Sink => "sink",
-        },
-        number: usize::from(v),
-        stated,
-        answer: layer.enter(role, v, stated),
-    }
-}
-
-// A layer over a network of type N, for which entries are made and drawn.
+// A layer over a network of type N, for which entries are drawn and tried.
 pub trait Layer<N>: Network {
     // The layer without an entry.
     fn over(below: N) -> Self;
 
-    // Makes the entry of a number: those below 32 are as many as a layer may have.
-    fn enter_one(&mut self, number: u16) -> Called;
+    // Makes as many entries as a layer may have.
+    fn fill(&mut self);
 
-    // Draws an entry over a network of n junctions, and enters it.
-    fn enter_drawn(&mut self, dice: &mut Dice, n: u16) -> Called;
+    // Tries one entry, and prints the answer.
+    fn show_one_entry(&mut self, out: &mut Out);
+
+    // Draws an entry over a network of n junctions, enters it, and prints the answer.
+    fn draw_entry(&mut self, session: &mut Session<'_>, n: u16);
 }
 
 impl<N: Network> Layer<N> for Chambers<N> {
@@ -97,15 +72,21 @@ impl<N: Network> Layer<N> for Chambers<N> {
         Chambers::new(below)
     }
 
-    // At the junction of that number.
-    fn enter_one(&mut self, number: u16) -> Called {
-        enter_chamber(self, number, 1000)
+    // At the first 32 junctions.
+    fn fill(&mut self) {
+        for v in 0..32 {
+            let _ = self.enter(v, 1000);
+        }
     }
 
-    fn enter_drawn(&mut self, dice: &mut Dice, n: u16) -> Called {
-        let v = draw_junction(dice, n.saturating_add(2));
-        let q = draw_amount(dice);
-        enter_chamber(self, v, q)
+    fn show_one_entry(&mut self, out: &mut Out) {
+        show_chamber(out, self, 0, 1000);
+    }
+
+    fn draw_entry(&mut self, session: &mut Session<'_>, n: u16) {
+        let v = draw_junction(&mut session.dice, n.saturating_add(2));
+        let q = draw_amount(&mut session.dice);
+        show_chamber(session.out, self, v, q);
     }
 }
 
@@ -114,16 +95,22 @@ impl<N: Network> Layer<N> for Gathering<N> {
         Gathering::new(below)
     }
 
-    // Sixteen sources, and then sinks.
-    fn enter_one(&mut self, number: u16) -> Called {
-        if number < 16 {
-            enter_feeder(self, Role::Source, 0, None)
-        } else {
-            enter_feeder(self, Role::Sink, 1, None)
+    // Sixteen sources and sixteen sinks.
+    fn fill(&mut self) {
+        for _ in 0..16 {
+            let _ = self.enter(Role::Source, 0, None);
+        }
+        for _ in 0..16 {
+            let _ = self.enter(Role::Sink, 1, None);
         }
     }
 
-    fn enter_drawn(&mut self, dice: &mut Dice, n: u16) -> Called {
+    fn show_one_entry(&mut self, out: &mut Out) {
+        show_feeder(out, self, Role::Source, 0, None);
+    }
+
+    fn draw_entry(&mut self, session: &mut Session<'_>, n: u16) {
+        let dice = &mut session.dice;
         let role = if dice.below(2) == 0 {
             Role::Source
         } else {
@@ -132,40 +119,7 @@ impl<N: Network> Layer<N> for Gathering<N> {
         let v = draw_junction(dice, n.saturating_add(1));
         let is_stated = dice.below(3) != 0;
         let q = draw_amount(dice);
-        enter_feeder(self, role, v, is_stated.then_some(q))
-    }
-}
-
-// Calls carry.
-fn carry<N: Network>(net: &mut N, k: usize, amount: u32) -> Called {
-    Called {
-        word: "carry",
-        number: k,
-        stated: Some(amount),
-        answer: net.change(k, Change::Carry(amount)),
-    }
-}
-
-// Calls limit.
-fn limit<N: Network>(net: &mut N, k: usize, q: u32) -> Called {
-    Called {
-        word: "limit",
-        number: k,
-        stated: Some(q),
-        answer: net.change(k, Change::Limit(q)),
-    }
-}
-
-// Lets a reach of a layer carry 0 or 1, draws an entry, and lets the reach carry nothing; does none of it where there is no
-// reach.
-fn draw_while_carrying<N, L: Layer<N>>(session: &mut Session<'_>, layer: &mut L, n: u16) {
-    let m = layer.size().reaches;
-    if m > 0 {
-        let k = session.dice.below(m);
-        let amount = session.dice.below(2) as u32;
-        carry(layer, k, amount).write(session.out);
-        layer.enter_drawn(&mut session.dice, n).write(session.out);
-        carry(layer, k, 0).write(session.out);
+        show_feeder(session.out, self, role, v, is_stated.then_some(q));
     }
 }
 
@@ -176,9 +130,16 @@ pub fn draw_layer<N: Network, L: Layer<N>>(session: &mut Session<'_>, net: N, mo
     let n = net.size().junctions;
     let mut layer = L::over(net);
     for _ in 0..session.dice.below(most) {
-        layer.enter_drawn(&mut session.dice, n).write(session.out);
+        layer.draw_entry(session, n);
     }
-    draw_while_carrying(session, &mut layer, n);
+    let m = layer.size().reaches;
+    if m > 0 {
+        let k = session.dice.below(m);
+        let amount = session.dice.below(2) as u32;
+        show_change(session.out, &mut layer, k, Change::Carry(amount));
+        layer.draw_entry(session, n);
+        show_change(session.out, &mut layer, k, Change::Carry(0));
+    }
     layer
 }
 
@@ -188,10 +149,10 @@ pub fn draw_call<N: Network>(session: &mut Session<'_>, net: &mut N) {
     let carries = dice.below(2) == 0;
     let k = dice.below(net.size().reaches + 1);
     let x = draw_amount(dice);
-    let called = if carries {
-        carry(net, k, x)
+    let change = if carries {
+        Change::Carry(x)
     } else {
-        limit(net, k, x)
+        Change::Limit(x)
     };
-    called.write(session.out);
+    show_change(session.out, net, k, change);
 }

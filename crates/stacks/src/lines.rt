@@ -1,49 +1,68 @@
 // The lines that are printed.
 use crate::out::Out;
+use network::{Reach, Size};
 use refusal::Refusal;
+use std::fmt;
 use std::fmt::Display;
 
+// A limit or an amount, or none where none is stated.
+#[derive(Clone, Copy)]
+struct Stated(Option<u32>);
+
+impl fmt::Display for Stated {
+    fn fmt<W: fmt::Write>(&self, f: &mut fmt::Formatter<W>) -> fmt::Result {
+        match self.0 {
+            Some(x) => x.fmt(f),
+            None => f.write_str("none"),
+        }
+    }
+}
+
+// What a call that may be refused answers.
+#[derive(Clone, Copy)]
+struct Answer(Result<(), Refusal>);
+
+impl fmt::Display for Answer {
+    fn fmt<W: fmt::Write>(&self, f: &mut fmt::Formatter<W>) -> fmt::Result {
+        match self.0 {
+            Ok(()) => f.write_str("accepted"),
+            Err(refusal) => refusal.fmt(f),
+        }
+    }
+}
+
 // A word and a value.
-pub fn write_line<D: Display + Drop>(out: &mut Out, word: &str, value: D) {
+pub fn write_line<D: fmt::Display + Drop>(out: &mut Out, word: &str, value: D) {
     writeln!(out, "{word} {value}");
 }
 
-// A word and numbers.
-pub fn write_numbers(out: &mut Out, word: &str, numbers: &[usize]) {
-    write!(out, "{word}");
-    for number in numbers {
-        write!(out, " {number}");
-    }
-    writeln!(out);
+// A call: its word, the number of the reach or the junction, the limit or the amount, and the answer.
+pub fn write_call(
+    out: &mut Out,
+    word: &str,
+    number: usize,
+    stated: Option<u32>,
+    answer: Result<(), Refusal>,
+) {
+    let stated = Stated(stated);
+    let answer = Answer(answer);
+    writeln!(out, "{word} {number} {stated}: {answer}");
 }
 
-// A call that may be refused, as it is printed: its word, the number of the reach or the junction, the limit or the amount
-// if one is stated, and the answer.
-#[derive(Clone, Copy)]
-pub struct Called {
-    pub word: &'static str,
-    pub number: usize,
-    pub stated: Option<u32>,
-    pub answer: Result<(), Refusal>,
+// The size of a network.
+pub fn write_size(out: &mut Out, size: Size) {
+    writeln!(
+        out,
+        "size {} {} {} {}",
+        size.junctions, size.reaches, size.intake, size.outfall
+    );
 }
 
-impl Called {
-    // Prints the call.
-    pub fn write(self, out: &mut Out) {
-        let Called {
-            word,
-            number,
-            stated,
-            answer,
-        } = self;
-        write!(out, "{word} {number} ");
-        match stated {
-            Some(x) => write!(out, "{x}: "),
-            None => write!(out, "none: "),
-        }
-        match answer {
-            Ok(()) => writeln!(out, "accepted"),
-            Err(refusal) => writeln!(out, "{refusal}"),
-        }
-    }
+// Reach k.
+pub fn write_reach(out: &mut Out, k: usize, reach: Reach) {
+    writeln!(
+        out,
+        "reach {k} {} {} {} {}",
+        reach.tail, reach.head, reach.limit, reach.carried
+    );
 }

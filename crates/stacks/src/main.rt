@@ -20,7 +20,7 @@ use towers::{show_tower_of_junctions, show_tower_of_reaches};
 const STACKS: u32 = 120;
 
 fn main(rt: HostRuntime) -> io::Result<()> {
-    let mut out = Out::new(rt.stdout());
+    let mut out = Out::new(rt.alloc(), rt.stdout())?;
     for number in 0..STACKS {
         show_stack(&mut out, number);
     }

@@ -1,30 +1,60 @@
-// Printing what a network is. (`as`: a limit or an amount is a u32.)
-use crate::lines::write_numbers;
-use crate::out::Out;
-use network::{Network, Reach, Reaches, Touching};
+// Calling a network, and printing what it answers.
 
-// The size of a network.
-pub fn show_size<N: Network>(out: &mut Out, net: &N) {
-    let size = net.size();
-    let junctions = usize::from(size.junctions);
-    let intake = usize::from(size.intake);
-    let outfall = usize::from(size.outfall);
-    write_numbers(out, "size", &[junctions, size.reaches, intake, outfall]);
+use crate::lines::{write_call, write_reach, write_size};
+use crate::out::Out;
+use chambers::Chambers;
+use gathering::{Gathering, Role};
+use network::{Change, Network, Reaches, Touching};
+
+// The word for a change in a line, and the number that stands apart from it there, as no `Display` would have it.
+fn word_of_change(change: Change) -> (&'static str, u32) {
+    match change {
+        Change::Carry(amount) => ("carry", amount),
+        Change::Limit(q) => ("limit", q),
+    }
 }
 
-// Reach k.
-fn show_reach(out: &mut Out, k: usize, reach: Reach) {
-    let tail = usize::from(reach.tail);
-    let head = usize::from(reach.head);
-    let limit = reach.limit as usize;
-    let carried = reach.carried as usize;
-    write_numbers(out, "reach", &[k, tail, head, limit, carried]);
+// Calls carry or limit.
+pub fn show_change<N: Network>(out: &mut Out, net: &mut N, k: usize, change: Change) {
+    let (word, x) = word_of_change(change);
+    let answer = net.change(k, change);
+    write_call(out, word, k, Some(x), answer);
+}
+
+// Enters a chamber.
+pub fn show_chamber<N: Network>(out: &mut Out, layer: &mut Chambers<N>, v: u16, q: u32) {
+    let answer = layer.enter(v, q);
+    write_call(out, "chamber", usize::from(v), Some(q), answer);
+}
+
+// The word for a role in a line of this program; the library prints none.
+fn word_of(role: Role) -> &'static str {
+    match role {
+        Role::Source => "source",
+        Role::Sink => "sink",
+    }
+}
+
+// Enters a source or a sink.
+pub fn show_feeder<N: Network>(
+    out: &mut Out,
+    layer: &mut Gathering<N>,
+    role: Role,
+    v: u16,
+    stated: Option<u32>,
+) {
+    let answer = layer.enter(role, v, stated);
+    write_call(out, word_of(role), usize::from(v), stated, answer);
+}
+
+pub fn show_size<N: Network>(out: &mut Out, net: &N) {
+    write_size(out, net.size());
 }
 
 // All reaches, in the order of their numbers.
 pub fn show_reaches<N: Network>(out: &mut Out, net: &N) {
     for (k, reach) in Reaches::of(net).enumerate() {
-        show_reach(out, k, reach);
+        write_reach(out, k, reach);
     }
 }
 

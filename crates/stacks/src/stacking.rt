@@ -31,16 +31,16 @@ fn show_in_use<N: Network>(session: &mut Session<'_>, net: &mut N) {
     write_line(session.out, "tally", tally(net));
 }
 
-// Puts chambers over a network, and a gathering over them.
-fn draw_two_layers<N: Network>(session: &mut Session<'_>, net: N) -> Gathering<Chambers<N>> {
-    let net: Chambers<N> = draw_layer(session, net, MOST_CHAMBERS);
-    draw_layer(session, net, MOST_FEEDERS)
-}
-
 // Puts four layers over a network, and uses the whole.
 fn show_layers<N: Network + Drop>(session: &mut Session<'_>, net: N) {
-    let net = draw_two_layers(session, net);
-    let mut net = draw_two_layers(session, net);
+    let net: Chambers<N> = draw_layer(session, net, MOST_CHAMBERS);
+    let net: Gathering<Chambers<N>> = draw_layer(session, net, MOST_FEEDERS);
+    let net: Chambers<Gathering<Chambers<N>>> = draw_layer(session, net, MOST_CHAMBERS);
+    let mut net: Gathering<Chambers<Gathering<Chambers<N>>>> = draw_layer(
+        session,
+        net,
+        MOST_FEEDERS,
+    );
     show_in_use(session, &mut net);
 }
 

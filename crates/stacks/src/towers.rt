@@ -1,4 +1,6 @@
 // Two towers of full layers, which come to as many junctions and to as many reaches as a network may have.
+ghost use Rattle.std.specs.Prelude.{◌≤◌};
+
 use crate::drawn::Layer;
 use crate::lines::write_line;
 use crate::out::Out;
@@ -11,16 +13,14 @@ use table::{Draft, Table};
 // Puts a layer over a network, with as many entries as it may have.
 fn full_layer<N: Network, L: Layer<N>>(net: N) -> L {
     let mut layer = L::over(net);
-    for number in 0..32 {
-        let _ = layer.enter_one(number);
-    }
+    layer.fill();
     layer
 }
 
 // Puts a layer over a network, tries one entry, and prints the size.
 fn show_one<N: Network, L: Layer<N>>(out: &mut Out, net: N) -> L {
     let mut layer = L::over(net);
-    layer.enter_one(0).write(out);
+    layer.show_one_entry(out);
     show_size(out, &layer);
     layer
 }
@@ -91,13 +91,14 @@ impl Above for NoReachLeft {
 }
 
 // A table with a reach in every row, all of them from the first junction, its intake, to the last, its outfall.
-fn full_table(rows: &mut [Row], n: u16, limit: u32) -> Table<'_> {
+fn full_table(rows: &mut [Row], n: u16, limit: u32) -> Table<'_>
+    requires { 1 ≤ n }
+{
     let count = rows.len();
-    let last = n.saturating_sub(1);
     let mut draft = Draft::new(rows);
-    let _ = draft.shape(n, 0, last);
+    let _ = draft.shape(n, 0, n - 1);
     for _ in 0..count {
-        let _ = draft.lay(0, last, limit);
+        let _ = draft.lay(0, n - 1, limit);
     }
     draft.commission()
 }
