@@ -1,8 +1,6 @@
-use std::fmt;
-
 // A checksum of numbers in their order.
 #[derive(Clone, Copy)]
-pub struct Checksum(u64);
+pub struct Checksum(pub u64);
 
 impl Checksum {
     // Of no number.
@@ -17,11 +15,5 @@ impl Checksum {
             .wrapping_mul(1_000_003)
             .wrapping_add(number)
             .wrapping_add(1);
-    }
-}
-
-impl fmt::Display for Checksum {
-    fn fmt<W: fmt::Write>(&self, f: &mut fmt::Formatter<W>) -> fmt::Result {
-        write!(f, "{:016x}", self.0)
     }
 }

@@ -1,18 +1,22 @@
 // Comparing networks with each other.
 use network::{Network, Reach, Reaches};
 
-// Whether two reaches have the same four numbers.
-fn is_same_reach(one: Reach, other: Reach) -> bool {
-    one.tail == other.tail
-        && one.head == other.head
-        && one.limit == other.limit
-        && one.carried == other.carried
+// The four numbers of a reach.
+fn numbers(reach: Reach) -> [u32; 4] {
+    [
+        u32::from(reach.tail),
+        u32::from(reach.head),
+        reach.limit,
+        reach.carried,
+    ]
 }
 
 // Whether two networks are the same: their sizes, and every reach with what it carries.
 pub fn are_same_networks<N: Network>(one: &N, other: &N) -> bool {
+    for (a, b) in Reaches::of(one).zip(Reaches::of(other)) {
+        if numbers(a) != numbers(b) {
+            return false;
+        }
+    }
     one.size() == other.size()
-        && Reaches::of(one)
-            .zip(Reaches::of(other))
-            .all(|(a, b)| is_same_reach(a, b))
 }

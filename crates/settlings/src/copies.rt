@@ -9,7 +9,6 @@ use crate::making::make;
 use crate::stepping::{Asking, settle_by_routes};
 use calls::{Settled, drain, settle};
 use network::{Network, Row};
-use refusal::Refusal;
 use routes::Search;
 use searches::{BreadthFirst, Dd1, Dd2};
 use table::Table;
@@ -47,23 +46,19 @@ pub struct Copies<N> {
 }
 
 // Makes the four, each from the same seed.
-pub fn make_copies(
-    form: Form,
-    seed: u64,
-    rows: &mut CopyRows,
-) -> Result<Copies<Table<'_>>, Refusal> {
+pub fn make_copies(form: Form, seed: u64, rows: &mut CopyRows) -> Copies<Table<'_>> {
     let CopyRows {
         by_routes,
         breadth_first,
         dd1,
         dd2,
     } = rows;
-    Ok(Copies {
-        by_routes: make(form, seed, by_routes)?,
-        breadth_first: make(form, seed, breadth_first)?,
-        dd1: make(form, seed, dd1)?,
-        dd2: make(form, seed, dd2)?,
-    })
+    Copies {
+        by_routes: make(form, seed, by_routes),
+        breadth_first: make(form, seed, breadth_first),
+        dd1: make(form, seed, dd1),
+        dd2: make(form, seed, dd2),
+    }
 }
 
 // Settles a copy under a search, and says whether the answer is as wanted, and the copy then the same as the one that was

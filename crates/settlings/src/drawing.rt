@@ -2,9 +2,9 @@
 use crate::dice::Dice;
 use crate::ends::Ends;
 use crate::form::{Form, Kind, Scale};
+use crate::plan::Plan;
 use network::Network;
-use refusal::Refusal;
-use table::{Draft, Table};
+use table::Table;
 
 // How many junctions and reaches a network is given.
 #[derive(Clone, Copy)]
@@ -49,16 +49,23 @@ fn draw_reach(dice: &mut Dice, kind: Kind, n: u16, outer: Ends) -> Ends {
     ends.or_outer(dice, outer)
 }
 
-// A limit, as a kind of network has them. One in eight is 0, but for the kind Close: its ways are long, and most of them
-// would be closed somewhere.
-fn draw_limit(dice: &mut Dice, kind: Kind) -> u32 {
-    if kind != Kind::Close && dice.one_in(8) {
-        return 0;
-    }
+// A limit above 0, as a kind of network has them.
+fn draw_open_limit(dice: &mut Dice, kind: Kind) -> u32 {
     match kind {
         Kind::High => 1_000_000 - dice.up_to(1_000),
         Kind::Low => 1 + dice.up_to(1),
         _ => 1 + dice.up_to(19),
+    }
+}
+
+// A limit, as a kind of network has them. One in eight is 0, but for the kind Close: its ways are long, and most of them
+// would be closed somewhere.
+fn draw_limit(dice: &mut Dice, kind: Kind) -> u32 {
+    let is_closed = !matches!(kind, Kind::Close) && dice.one_in(8);
+    if is_closed {
+        0
+    } else {
+        draw_open_limit(dice, kind)
     }
 }
 
@@ -71,28 +78,29 @@ fn count_in_line(kind: Kind, counts: Counts) -> u16 {
 }
 
 // Draws a network of one of the kinds Any, Low, High, Ahead, Close and Carrying.
-pub fn lay_drawn(draft: &mut Draft<'_>, dice: &mut Dice, form: Form) -> Result<(), Refusal> {
-    let counts = draw_counts(dice, form.scale);
-    let outer = draw_outer(dice, form.kind, counts.junctions);
-    draft.shape(counts.junctions, outer.from, outer.to)?;
+pub fn lay_drawn(plan: &mut Plan<'_>, form: Form) {
+    let counts = draw_counts(&mut plan.dice, form.scale);
+    let outer = draw_outer(&mut plan.dice, form.kind, counts.junctions);
+    plan.shape(counts.junctions, outer.from, outer.to);
     let in_line = count_in_line(form.kind, counts);
     for v in 0..in_line {
-        draft.lay(v, v + 1, draw_limit(dice, form.kind))?;
+        let limit = draw_limit(&mut plan.dice, form.kind);
+        plan.lay(v, v + 1, limit);
     }
     for _ in in_line..counts.reaches {
-        let ends = draw_reach(dice, form.kind, counts.junctions, outer);
-        draft.lay(ends.from, ends.to, draw_limit(dice, form.kind))?;
+        let ends = draw_reach(&mut plan.dice, form.kind, counts.junctions, outer);
+        let limit = draw_limit(&mut plan.dice, form.kind);
+        plan.lay(ends.from, ends.to, limit);
     }
-    Ok(())
 }
 
 // Lets about half of the reaches carry something.
-pub fn carry_some(table: &mut Table<'_>, dice: &mut Dice) -> Result<(), Refusal> {
+pub fn carry_some(table: &mut Table<'_>, dice: &mut Dice) {
     for k in 0..table.size().reaches {
         if dice.one_in(2) {
-            let most = table.reach(k)?.limit;
-            table.carry(k, dice.up_to(most))?;
+            if let Ok(reach) = table.reach(k) {
+                let _ = table.carry(k, dice.up_to(reach.limit));
+            }
         }
     }
-    Ok(())
 }

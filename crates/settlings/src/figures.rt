@@ -59,12 +59,21 @@ impl Figures {
     }
 }
 
+// Two numbers and a checksum.
+fn write_sums<W: fmt::Write>(
+    f: &mut fmt::Formatter<W>,
+    first: u64,
+    second: u64,
+    checksum: Checksum,
+) -> fmt::Result {
+    let Checksum(sum) = checksum;
+    write!(f, "{first} {second} {sum:016x}")
+}
+
 impl fmt::Display for Figures {
     fn fmt<W: fmt::Write>(&self, f: &mut fmt::Formatter<W>) -> fmt::Result {
-        write!(
-            f,
-            "{} {} {}, bottleneck {} {} {}",
-            self.routes, self.litres, self.checksum, self.cut.sum, self.cut.crossing, self.cuts,
-        )
+        write_sums(f, u64::from(self.routes), self.litres, self.checksum)?;
+        f.write_str(", bottleneck ")?;
+        write_sums(f, self.cut.sum, self.cut.crossing as u64, self.cuts)
     }
 }

@@ -1,5 +1,4 @@
 // What each network looks like, by its number.
-use std::fmt;
 
 // How large a network is.
 #[derive(Clone, Copy)]
@@ -12,8 +11,19 @@ pub enum Scale {
     Large,
 }
 
+impl Scale {
+    // The number for a scale.
+    pub fn pick(self, small: u16, middle: u16, large: u16) -> u16 {
+        match self {
+            Scale::Small => small,
+            Scale::Middle => middle,
+            Scale::Large => large,
+        }
+    }
+}
+
 // How the reaches of a network lie.
-#[derive(Clone, Copy, PartialEq, Eq)]
+#[derive(Clone, Copy)]
 pub enum Kind {
     // between any two junctions
     Any,
@@ -41,20 +51,20 @@ pub enum Kind {
     Crossed,
 }
 
-// The kinds, which the networks take by turns.
-const KINDS: [Kind; 12] = [
-    Kind::Any,
-    Kind::Low,
-    Kind::High,
-    Kind::Ahead,
-    Kind::Close,
-    Kind::Carrying,
-    Kind::Chain,
-    Kind::Grid,
-    Kind::Matching,
-    Kind::Tree,
-    Kind::Dense,
-    Kind::Crossed,
+// The kinds, which the networks take by turns, and the words for them.
+const KINDS: [(Kind, &str); 12] = [
+    (Kind::Any, "any"),
+    (Kind::Low, "low"),
+    (Kind::High, "high"),
+    (Kind::Ahead, "ahead"),
+    (Kind::Close, "close"),
+    (Kind::Carrying, "carrying"),
+    (Kind::Chain, "chain"),
+    (Kind::Grid, "grid"),
+    (Kind::Matching, "matching"),
+    (Kind::Tree, "tree"),
+    (Kind::Dense, "dense"),
+    (Kind::Crossed, "crossed"),
 ];
 
 // The numbers from which networks are of middle size, from which they are large, and at which they end.
@@ -64,10 +74,11 @@ const FIRST_LARGE: u32 = 600;
 
 pub const NETWORKS: u32 = 612;
 
-// A kind and a scale.
+// A kind, with its word, and a scale.
 #[derive(Clone, Copy)]
 pub struct Form {
     pub kind: Kind,
+    pub word: &'static str,
     pub scale: Scale,
 }
 
@@ -81,28 +92,7 @@ impl Form {
         } else {
             Scale::Large
         };
-        Form {
-            kind: KINDS[number as usize % KINDS.len()],
-            scale,
-        }
-    }
-}
-
-impl fmt::Display for Kind {
-    fn fmt<W: fmt::Write>(&self, f: &mut fmt::Formatter<W>) -> fmt::Result {
-        f.write_str(match self {
-            Kind::Any => "any",
-            Kind::Low => "low",
-            Kind::High => "high",
-            Kind::Ahead => "ahead",
-            Kind::Close => "close",
-            Kind::Carrying => "carrying",
-            Kind::Chain => "chain",
-            Kind::Grid => "grid",
-            Kind::Matching => "matching",
-            Kind::Tree => "tree",
-            Kind::Dense => "dense",
-            Kind::Crossed => "crossed",
-        })
+        let (kind, word) = KINDS[number as usize % KINDS.len()];
+        Form { kind, word, scale }
     }
 }

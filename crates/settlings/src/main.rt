@@ -16,7 +16,7 @@ mod figures;
 mod form;
 mod laying;
 mod making;
-mod out;
+mod plan;
 mod pushing;
 mod stepping;
 mod three;
@@ -24,18 +24,13 @@ mod trying;
 
 use copies::CopyRows;
 use form::NETWORKS;
-use out::Out;
 use std::io;
 use trying::try_network;
 
 fn main(rt: HostRuntime) -> io::Result<()> {
-    let mut out = Out::new(rt.alloc(), rt.stdout())?;
     let mut rows = CopyRows::new();
     for number in 0..NETWORKS {
-        match try_network(number, &mut rows) {
-            Ok(trial) => writeln!(out, "{trial}"),
-            Err(refusal) => writeln!(out, "{number}: {refusal}"),
-        }
+        rt.println(try_network(number, &mut rows))?;
     }
-    out.end()
+    Ok(())
 }

@@ -3,24 +3,23 @@
 use network::Network;
 use refusal::Refusal;
 
-// How much more a step can take: along its reach what is left of the limit, back what is carried.
-fn headroom<N: Network>(net: &N, step: u16) -> Result<u32, Refusal> {
-    let reach = net.reach(usize::from(step / 2))?;
-    Ok(if step % 2 == 0 {
-        reach.limit - reach.carried
-    } else {
-        reach.carried
-    })
+// How much more a step can take: along its reach what is left of the limit, back what is carried. 0 where there is no such
+// reach.
+fn headroom<N: Network>(net: &N, step: u16) -> u32 {
+    match net.reach(usize::from(step / 2)) {
+        Ok(reach) if step % 2 == 0 => reach.limit - reach.carried,
+        Ok(reach) => reach.carried,
+        Err(_) => 0,
+    }
 }
 
 // The least headroom of some steps; 0 where there are none.
-fn least_headroom<N: Network>(net: &N, steps: &[u16]) -> Result<u32, Refusal> {
-    let mut least = None;
+fn least_headroom<N: Network>(net: &N, steps: &[u16]) -> u32 {
+    let mut least = if steps.is_empty() { 0 } else { u32::MAX };
     for step in steps {
-        let room = headroom(net, *step)?;
-        least = Some(least.map_or(room, |l: u32| l.min(room)));
+        least = least.min(headroom(net, *step));
     }
-    Ok(least.unwrap_or(0))
+    least
 }
 
 // Lets so many litres more go along a step.
@@ -35,11 +34,14 @@ fn shift<N: Network>(net: &mut N, step: u16, litres: u32) -> Result<(), Refusal>
     net.carry(k, amount)
 }
 
-// Lets the least headroom of some steps more go along each of them, and answers how much that is.
-pub fn push<N: Network>(net: &mut N, steps: &[u16]) -> Result<u32, Refusal> {
-    let litres = least_headroom(net, steps)?;
+// Lets the least headroom of some steps more go along each of them, and answers how much that is; 0 where a step refuses.
+pub fn push<N: Network>(net: &mut N, steps: &[u16]) -> u32 {
+    let litres = least_headroom(net, steps);
+    let mut pushed = litres;
     for step in steps {
-        shift(net, *step, litres)?;
+        if shift(net, *step, litres).is_err() {
+            pushed = 0;
+        }
     }
-    Ok(litres)
+    pushed
 }

@@ -7,7 +7,7 @@ use network::Network;
 use routes::Route;
 
 // How often the searches are asked before a route is pushed.
-#[derive(Clone, Copy, PartialEq, Eq)]
+#[derive(Clone, Copy)]
 pub enum Asking {
     Once,
     Twice,
@@ -37,13 +37,12 @@ impl Stepped {
 
     // Asks for a route, and where it is to be asked twice, again without pushing the route: it has to be the same.
     fn ask<N: Network>(&mut self, three: &mut Three, net: &N, asking: Asking) -> Option<Route> {
-        let asked = three.ask(net);
-        self.same &= asked.same;
-        if asking == Asking::Twice {
-            let again = three.ask(net);
-            self.same &= again.same && are_same(&asked.route, &again.route);
+        let route = three.ask(net, &mut self.same);
+        if matches!(asking, Asking::Twice) {
+            let again = three.ask(net, &mut self.same);
+            self.same &= are_same(&route, &again);
         }
-        asked.route
+        route
     }
 
     // Pushes a route, and counts it. A route has room for at least one litre.
@@ -52,7 +51,7 @@ impl Stepped {
         for step in route.steps() {
             checksum.add(u64::from(*step));
         }
-        let litres = push(net, route.steps()).unwrap_or(0);
+        let litres = push(net, route.steps());
         self.same &= litres > 0;
         self.settled.routes = self.settled.routes.saturating_add(1);
         self.settled.litres = self.settled.litres.saturating_add(u64::from(litres));

@@ -10,14 +10,6 @@ pub struct Three {
     dd2: BegunDd2,
 }
 
-// What the three answered: the route of the breadth-first search, if there is one, and whether the others answered the
-// same.
-#[derive(Drop)]
-pub struct Asked {
-    pub route: Option<Route>,
-    pub same: bool,
-}
-
 impl Three {
     // Begins all three.
     pub fn begin<N: Network>(net: &N) -> Three {
@@ -28,15 +20,14 @@ impl Three {
         }
     }
 
-    // Asks all three for a route.
-    pub fn ask<N: Network>(&mut self, net: &N) -> Asked {
+    // Asks all three for a route, and answers that of the breadth-first search, if there is one. Takes note where the others
+    // answer another.
+    pub fn ask<N: Network>(&mut self, net: &N, same: &mut bool) -> Option<Route> {
         let route = self.breadth_first.route(net);
         let by_dd1 = self.dd1.route(net);
         let by_dd2 = self.dd2.route(net);
-        Asked {
-            same: are_same(&route, &by_dd1) && are_same(&route, &by_dd2),
-            route,
-        }
+        *same &= are_same(&route, &by_dd1) && are_same(&route, &by_dd2);
+        route
     }
 
     // Ends all three.

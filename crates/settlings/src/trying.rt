@@ -1,12 +1,11 @@
 // What is done to each network, and the line that is printed for it.
-use crate::changing::{Changing, draw_change};
+use crate::changing::draw_change;
 use crate::copies::{Copies, CopyRows, make_copies};
 use crate::dice::Dice;
 use crate::figures::Figures;
 use crate::form::{Form, Kind, Scale};
 use crate::stepping::Asking;
 use network::{Network, Size};
-use refusal::Refusal;
 use std::fmt;
 
 // The seeds of the first network, and of what is done to it.
@@ -31,19 +30,7 @@ pub struct Trial {
 
 // The highest budget of a settling that may leave routes.
 fn most_budget(scale: Scale) -> u32 {
-    match scale {
-        Scale::Small => 5,
-        Scale::Middle => 20,
-        Scale::Large => 80,
-    }
-}
-
-// Which changes are drawn between settlings. A network that began dry carries amounts in balance, and goes on so.
-fn changing_of(kind: Kind) -> Changing {
-    match kind {
-        Kind::Carrying => Changing::All,
-        _ => Changing::Limits,
-    }
+    u32::from(scale.pick(5, 20, 80))
 }
 
 // Makes up to four changes in every copy.
@@ -54,7 +41,7 @@ fn change_some<N: Network>(
     figures: &mut Figures,
 ) {
     for _ in 0..dice.up_to(4) {
-        let change = draw_change(dice, changing_of(kind), &copies.by_routes);
+        let change = draw_change(dice, kind, &copies.by_routes);
         figures.same &= copies.change(change);
     }
 }
@@ -91,9 +78,9 @@ fn settle_drained<N: Network>(copies: &mut Copies<N>, asking: Asking) -> Figures
 }
 
 // Makes the network of a number, and settles it.
-pub fn try_network(number: u32, rows: &mut CopyRows) -> Result<Trial, Refusal> {
+pub fn try_network(number: u32, rows: &mut CopyRows) -> Trial {
     let form = Form::of(number);
-    let mut copies = make_copies(form, NETWORK_SEED + u64::from(number), rows)?;
+    let mut copies = make_copies(form, NETWORK_SEED + u64::from(number), rows);
     let mut dice = Dice::new(TRIAL_SEED + u64::from(number));
     let asking = if dice.one_in(2) {
         Asking::Twice
@@ -102,32 +89,24 @@ pub fn try_network(number: u32, rows: &mut CopyRows) -> Result<Trial, Refusal> {
     };
     let settled = settle_in_parts(&mut copies, &mut dice, form, asking);
     let drained = settle_drained(&mut copies, asking);
-    Ok(Trial {
+    Trial {
         number,
         form,
         size: copies.by_routes.size(),
         settled,
         drained,
-    })
+    }
 }
 
 // The number, the kind, the junctions and the reaches; the figures; and whether all that was compared is the same.
 impl fmt::Display for Trial {
     fn fmt<W: fmt::Write>(&self, f: &mut fmt::Formatter<W>) -> fmt::Result {
-        let Size {
-            junctions,
-            reaches,
-            ..
-        } = self.size;
+        let junctions = self.size.junctions;
+        let reaches = self.size.reaches;
         let is_same = self.settled.same && self.drained.same;
-        write!(
-            f,
-            "{} {} {junctions} {reaches}: {}, drained {}, {}",
-            self.number,
-            self.form.kind,
-            self.settled,
-            self.drained,
-            if is_same { "same" } else { "DIFFERENT" },
-        )
+        write!(f, "{} {} ", self.number, self.form.word)?;
+        write!(f, "{junctions} {reaches}: {}", self.settled)?;
+        let same = if is_same { "same" } else { "DIFFERENT" };
+        write!(f, ", drained {}, {same}", self.drained)
     }
 }
