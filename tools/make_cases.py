@@ -1,11 +1,12 @@
 #!/usr/bin/env python3
-"""Writes crates/drawings/stdin and crates/drawings/stdout: many drawings, and the report expected for each.
+"""Writes crates/drawings/stdin and crates/drawings/stdout: many drawings, and the report expected for each. Those that
+beside/make_stored writes stay.
 
 stdin has one drawing a line: its name, a space, and its bytes in lowercase hex (`-` for the empty drawing).
 stdout has for each drawing a line `drawing NAME`, and then its report.
 
 The reports come from the model in drawing.py. For the drawings made by hand the report is stated here as well,
-and a difference between the two stops this tool. Every run writes the same two files.
+and a difference between the two stops this tool. Every run writes the same drawings.
 """
 
 import sys
@@ -13,9 +14,9 @@ from pathlib import Path
 
 sys.dont_write_bytecode = True  # leaves no __pycache__ beside the tools
 import make_examples  # noqa: E402
+import stored  # noqa: E402
 from drawing import B, C, D, E, H, I, KINDS, L, MAX_INPUT, N, O, R, S, T, report  # noqa: E402
 
-FOLDER = Path(__file__).resolve().parent.parent / "crates" / "drawings"
 NAME_LETTERS = set("abcdefghijklmnopqrstuvwxyzABCDEFGHIJKLMNOPQRSTUVWXYZ0123456789-")
 
 RANDOM_VALID = 36
@@ -785,12 +786,7 @@ def main():
     random_damaged()
     random_bottlenecks()
 
-    FOLDER.mkdir(parents=True, exist_ok=True)
-    stdin = "".join(f"{name} {data.hex() or '-'}\n" for name, data in cases.items())
-    stdout = "".join(f"drawing {name}\n{report(data)}" for name, data in cases.items())
-    (FOLDER / "stdin").write_bytes(stdin.encode("ascii"))
-    (FOLDER / "stdout").write_bytes(stdout.encode("ascii"))
-    print(f"{len(cases)} drawings, {len(stdin)} bytes of stdin, {len(stdout)} bytes of stdout")
+    stored.write([(name, data, report(data)) for name, data in cases.items()], outside=False)
 
 
 if __name__ == "__main__":
