@@ -7,13 +7,13 @@ use network::{Network, Reaches};
 pub fn tally<N: Network>(net: &N) -> i64
     ensures { result ≡ delivered (N.meaning net.now) }
 {
-    let intake = net.size().intake;
+    let size = net.size();
     let mut sum: i64 = 0;
     for reach in Reaches::of(net) {
-        if reach.tail == intake {
+        if reach.tail == size.intake {
             sum += i64::from(reach.carried);
         }
-        if reach.head == intake {
+        if reach.head == size.intake {
             sum -= i64::from(reach.carried);
         }
     }

@@ -3,7 +3,7 @@ use Rattle.std.specs.Prelude.{◌≡◌, ℕ, ◌<◌, ◌≤◌, List, length, 
 use Rattle.flow.specs.Bounds.{highest_limit}
 use Rattle.flow.specs.Net.{Arc, arc_at}
 use Rattle.network.specs.declared.row.Row.{Row}
-use Rattle.network.specs.Rows.{arc_of_row, arcs_in}
+use Rattle.network.specs.Rows.{arc_of_row, arcs_of}
 use Rattle.layer.specs.Bounds.{most_own}
 use Rattle.layer.specs.declared.own.OwnRows.{OwnRows}
 use Rattle.layer.specs.declared.own.NotInserted.{NotInserted}
@@ -11,7 +11,7 @@ use Rattle.layer.specs.declared.own.NotInserted.TheVariants.{NoPlace, BehindTheE
 
 -- the reaches
 abbrev pub own_arcs : OwnRows → List Arc
-own_arcs o = arcs_in o.rows.items
+own_arcs o = arcs_of o.rows o.used
 
 -- the row of reach e, with its numbers; nothing exactly where there is no such reach
 abbrev pub RowAt : List Arc → ℕ → Option Row → Type 0

@@ -10,7 +10,8 @@ use network::{Network, Reaches};
 pub fn carries_any<N: Network>(net: &N) -> bool
     ensures { result ≡ carries_any (N.meaning net.now).reaches }
 {
-    Reaches::of(net).any(|reach| reach.carried > 0)
+    let mut reaches = Reaches::of(net);
+    reaches.any(|reach| reach.carried > 0)
 }
 
 // Whether these are more junctions or more reaches than a network may have.

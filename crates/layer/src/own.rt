@@ -2,13 +2,12 @@
 ghost use Rattle.std.specs.Prelude.{◌≡◌, ◌<◌, ◌≤◌, [], length, IfSome};
 ghost use Rattle.std.specs.List.{insert};
 ghost use Rattle.refusal.specs.Checks.{afterwards};
-ghost use Rattle.network.specs.Rows.{arc_of_row};
+ghost use Rattle.network.specs.Rows.{arc_of_row, arcs_in};
 ghost use Rattle.network.specs.Touching.{Touched};
 ghost use Rattle.network.specs.Changing.{ChangedIn};
 ghost use Rattle.layer.specs.Bounds.{most_own};
 ghost use Rattle.layer.specs.Keeping.{own_arcs, RowAt, Insertion};
 
-use arrayvec::ArrayVec;
 use network::rows::{change_in, touch_in};
 use network::{Change, Row};
 use refusal::{Part, Refusal};
@@ -25,10 +24,12 @@ pub enum NotInserted {
     BehindTheEnd,
 }
 
-// Plain rows, each of which holds a reach, numbered from 0.
-#[derive(Clone, Drop)]
+// Plain rows, of which the first `used` hold reaches, numbered from 0. (An array and a count, and no ArrayVec, which is not
+// Copy.)
+#[derive(Clone, Copy)]
 pub struct OwnRows {
-    rows: ArrayVec<Row, MOST_OWN>,
+    rows: [Row; MOST_OWN],
+    used: usize,
 }
 
 impl OwnRows {
@@ -37,7 +38,8 @@ impl OwnRows {
         ensures { own_arcs result ≡ [] }
     {
         OwnRows {
-            rows: ArrayVec::new(),
+            rows: [Row::default(); MOST_OWN],
+            used: 0,
         }
     }
 
@@ -46,14 +48,21 @@ impl OwnRows {
         ensures value { result ≡ length (own_arcs self.now) }
         ensures few { result ≤ most_own }
     {
-        self.rows.len()
+        self.used.min(MOST_OWN)
+    }
+
+    // The rows that hold reaches.
+    fn filled(&self) -> &[Row]
+        ensures { arcs_in result.now ≡ own_arcs self.now }
+    {
+        &self.rows[..self.count()]
     }
 
     // The row of reach e, if there is one.
     pub fn row(&self, e: usize) -> Option<Row>
         ensures { RowAt (own_arcs self.now) e result }
     {
-        self.rows.get(e).copied()
+        self.filled().get(e).copied()
     }
 
     // The lowest reach number from e on whose reach has the junction at an end, if there is one.
@@ -61,7 +70,7 @@ impl OwnRows {
         ensures told { Touched junction (own_arcs self.now) e result }
         ensures few { IfSome result (λ i. i < most_own) }
     {
-        touch_in(&self.rows, junction, e)
+        touch_in(self.filled(), junction, e)
     }
 
     // Sets one number of reach e, for which the part answers.
@@ -69,7 +78,8 @@ impl OwnRows {
         ensures done { ChangedIn change (own_arcs self.old) (λ _. part) e result (own_arcs self.new) }
         ensures refused { self.new ≡ afterwards result self.new self.old }
     {
-        change_in(&mut self.rows, e, change, part)
+        let used = self.count();
+        change_in(&mut self.rows[..used], e, change, part)
     }
 
     // Puts one more reach before reach `at`, or behind all where `at` is their number. The reaches from `at` on move up
@@ -80,13 +90,16 @@ impl OwnRows {
             (own_arcs self.old) }
         ensures refused { self.new ≡ afterwards result self.new self.old }
     {
-        if self.rows.is_full() {
+        let used = self.count();
+        if used == MOST_OWN {
             return Err(NotInserted::NoPlace);
         }
-        if at > self.rows.len() {
+        if at > used {
             return Err(NotInserted::BehindTheEnd);
         }
-        self.rows.insert(at, row);
+        self.rows.copy_within(at..used, at + 1);
+        self.rows[at] = row;
+        self.used = used + 1;
         Ok(())
     }
 }

@@ -13,7 +13,7 @@ invariant-loop-reach g l =
     let back = entering was.intake was.reaches in
     (goal.iterator-loop-reach g).can_next l.reach-iterator
     × (goal.iterator-loop-reach g).is_finite l.reach-iterator
-    × (l.intake ≡ was.intake)
+    × (l.size.intake ≡ was.intake)
     × (out ≤ highest_limit * most_reaches)
     × (back ≤ highest_limit * most_reaches)
     × (leaving was.intake left ≤ out)
