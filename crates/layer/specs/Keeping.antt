@@ -1,17 +1,21 @@
 -- The reaches that a layer keeps in rows of its own.
-use Rattle.std.specs.Prelude.{◌≡◌, ℕ, ◌<◌, ◌≤◌, List, length, Some, None, Ok, Err, Option, Result}
+use Rattle.std.specs.Prelude.{◌≡◌, ℕ, ◌<◌, ◌≤◌, List, length, take, Some, None, Ok, Err, Option, Result}
 use Rattle.flow.specs.Bounds.{highest_limit}
 use Rattle.flow.specs.Net.{Arc, arc_at}
 use Rattle.network.specs.declared.row.Row.{Row}
-use Rattle.network.specs.Rows.{arc_of_row, arcs_of}
+use Rattle.network.specs.Rows.{arc_of_row, arcs_in}
 use Rattle.layer.specs.Bounds.{most_own}
 use Rattle.layer.specs.declared.own.OwnRows.{OwnRows}
 use Rattle.layer.specs.declared.own.NotInserted.{NotInserted}
 use Rattle.layer.specs.declared.own.NotInserted.TheVariants.{NoPlace, BehindTheEnd}
 
+-- the rows that hold reaches
+unfoldable pub filled : OwnRows → List Row
+filled o = take o.used o.rows
+
 -- the reaches
 abbrev pub own_arcs : OwnRows → List Arc
-own_arcs o = arcs_of o.rows o.used
+own_arcs o = arcs_in (filled o)
 
 -- the row of reach e, with its numbers; nothing exactly where there is no such reach
 abbrev pub RowAt : List Arc → ℕ → Option Row → Type 0

@@ -2,11 +2,11 @@
 ghost use Rattle.std.specs.Prelude.{◌≡◌, ◌<◌, ◌≤◌, [], length, IfSome};
 ghost use Rattle.std.specs.List.{insert};
 ghost use Rattle.refusal.specs.Checks.{afterwards};
-ghost use Rattle.network.specs.Rows.{arc_of_row, arcs_in};
+ghost use Rattle.network.specs.Rows.{arc_of_row};
 ghost use Rattle.network.specs.Touching.{Touched};
 ghost use Rattle.network.specs.Changing.{ChangedIn};
 ghost use Rattle.layer.specs.Bounds.{most_own};
-ghost use Rattle.layer.specs.Keeping.{own_arcs, RowAt, Insertion};
+ghost use Rattle.layer.specs.Keeping.{filled, own_arcs, RowAt, Insertion};
 
 use network::rows::{change_in, touch_in};
 use network::{Change, Row};
@@ -34,6 +34,7 @@ pub struct OwnRows {
 
 impl OwnRows {
     // No reach, and room for as many as a layer may add.
+    #[tactic(auto, unfolding(crate::specs::Keeping::filled))]
     pub fn new() -> OwnRows
         ensures { own_arcs result ≡ [] }
     {
@@ -44,6 +45,7 @@ impl OwnRows {
     }
 
     // How many reaches there are.
+    #[tactic(auto, unfolding(crate::specs::Keeping::filled))]
     pub fn count(&self) -> usize
         ensures value { result ≡ length (own_arcs self.now) }
         ensures few { result ≤ most_own }
@@ -52,8 +54,9 @@ impl OwnRows {
     }
 
     // The rows that hold reaches.
+    #[tactic(auto, unfolding(crate::specs::Keeping::filled))]
     fn filled(&self) -> &[Row]
-        ensures { arcs_in result.now ≡ own_arcs self.now }
+        ensures { result.now ≡ filled self.now }
     {
         &self.rows[..self.count()]
     }
@@ -66,6 +69,7 @@ impl OwnRows {
     }
 
     // The lowest reach number from e on whose reach has the junction at an end, if there is one.
+    #[tactic(auto, unfolding(crate::specs::Keeping::filled))]
     pub fn touch(&self, junction: u16, e: usize) -> Option<usize>
         ensures told { Touched junction (own_arcs self.now) e result }
         ensures few { IfSome result (λ i. i < most_own) }
@@ -74,6 +78,7 @@ impl OwnRows {
     }
 
     // Sets one number of reach e, for which the part answers.
+    #[tactic(auto, unfolding(crate::specs::Keeping::filled))]
     pub fn change(&mut self, e: usize, change: Change, part: Part) -> Result<(), Refusal>
         ensures done { ChangedIn change (own_arcs self.old) (λ _. part) e result (own_arcs self.new) }
         ensures refused { self.new ≡ afterwards result self.new self.old }
@@ -84,6 +89,7 @@ impl OwnRows {
 
     // Puts one more reach before reach `at`, or behind all where `at` is their number. The reaches from `at` on move up
     // by one number. Nothing is changed where there is no room or `at` is a higher number.
+    #[tactic(auto, unfolding(crate::specs::Keeping::filled))]
     pub fn insert(&mut self, at: usize, row: Row) -> Result<(), NotInserted>
         ensures told { Insertion (length (own_arcs self.old)) at result }
         ensures own { own_arcs self.new ≡ afterwards result (insert (own_arcs self.old) at (arc_of_row row))

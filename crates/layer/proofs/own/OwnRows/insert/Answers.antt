@@ -2,10 +2,12 @@ use Rattle.std.proofs.Common.{◌≡◌, ◌<◌, ℕ, length, take, rules, arit
 use Rattle.std.specs.List.{insert}
 use Rattle.network.specs.Rows.{arc_of_row, arcs_in}
 use Rattle.network.proofs.Rowing.{arcs_length}
+use Rattle.layer.specs.Keeping.{filled}
 use Rattle.layer.proofs.Inserting.{arcs_inserted, row_inserted}
 use Rattle.layer.proofs.own.OwnRows.insert.Goals as goal
 
 pub returns-clause-own : goal.returns-clause-own
+unfolding filled
 returns-clause-own c =
     let rows = c.args.self.now.rows in
     let used = c.count-used.result in
